@@ -1,0 +1,10 @@
+pub mod Admission
+pub mod Clocks
+pub mod Kinds
+pub mod Legal
+pub mod Limits
+pub mod Lists
+pub mod Models
+pub mod Numbers
+pub mod Reading
+pub mod Runs
