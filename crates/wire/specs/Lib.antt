@@ -1,0 +1,6 @@
+pub mod Bytes
+pub mod Faults
+pub mod Fields
+pub mod Framed
+pub mod Seen
+pub mod Written
