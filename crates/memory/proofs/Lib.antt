@@ -1,3 +1,4 @@
+pub mod Admitted
 pub mod Loops
 pub mod Orphans
 pub mod Present

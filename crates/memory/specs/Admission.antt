@@ -83,3 +83,8 @@ judgement p rs e =
 abbrev pub admits : ℕ → List Record → List Record → Bool
 admits p rs [] = true
 admits p rs (r ∷ more) = isOk (judgement p rs (logged r)) && admits p (rs ++ r ∷ []) more
+
+-- every address has 32 bits and every value 64, as the types of the code say
+abbrev pub sized : List Record → Bool
+sized [] = true
+sized (r ∷ rs) = (ltb (r .address) 4294967296 && ltb (r .value) 18446744073709551616) && sized rs

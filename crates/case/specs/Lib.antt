@@ -1,0 +1,4 @@
+pub mod Calls
+pub mod Loading
+pub mod State
+pub mod Views
