@@ -2,9 +2,9 @@
 use mathlib.Core.Path.{_≡_}
 use mathlib.Core.Bool.{Bool, true, false, cond, not, _&&_}
 use mathlib.Core.List.{List, [], _∷_, _++_}
-use Prim.Native.Nat.{ℕ, _+_, _*_, _<_}
+use Prim.Native.Nat.{ℕ, _+_, _*_, _≤_}
 use lib.Dec.{eqb, ltb}
-use lib.ListN.{length, take}
+use lib.ListN.{length, take, drop}
 use Rattle.std.specs.declared.option.Option.{Option}
 use Rattle.std.specs.declared.option.Option.the-variants.{Some, None}
 use Rattle.std.specs.declared.result.Result.{Result}
@@ -20,9 +20,9 @@ use Rattle.wire.specs.declared.faults.RunFault.{RunFault}
 use Rattle.wire.specs.declared.faults.RunFault.the-variants.{Bytes, Content}
 use Rattle.wire.specs.declared.fields.RunHead.{RunHead}
 use Rattle.wire.specs.declared.fields.Text.the-variants.{Run}
-use Rattle.wire.specs.Bytes.{all-of, record-field, run-head}
+use Rattle.wire.specs.Bytes.{field, all-of, record-field, run-head}
 use Rattle.wire.specs.Faults.{run-fault}
-use Rattle.wire.specs.Fields.{Piece, pieces, Sort, head-field, record-field as record-sort, line-field, order-field, orphan-field, end-field, Shown, fault-at, next-field, later, entry-of, run-head-of}
+use Rattle.wire.specs.Fields.{Piece, pieces, Sort, head-field, record-field as record-sort, line-field, order-field, orphan-field, end-field, tag-of, Shown, fault-at, next-field, later, entry-of, run-head-of}
 use Rattle.case.specs.State.{State, opened, with-record}
 use Rattle.case.specs.Calls.{Outcome, sealed-verdict, sealed}
 
@@ -31,8 +31,11 @@ pub record Loaded : Type 0 where
   pub state : State
   pub result : Result ℕ RunFault
 
+abbrev pub ended-as : State → Result ℕ RunFault → Loaded
+ended-as s r = record { state = s; result = r }
+
 abbrev pub stopped : State → RunFault → Loaded
-stopped s f = record { state = s; result = Err f }
+stopped s f = ended-as s (Err f)
 
 -- a record field: its entry is admitted, and the next field follows; a refused record has the place of its field
 abbrev pub load-judged : Result Record Refusal → ℕ → State → (State → Loaded) → Loaded
@@ -46,7 +49,7 @@ load-entry (Err e) at s rest = stopped s (Bytes e)
 -- a field behind the head: a record, or the end; any other is misplaced
 abbrev pub load-sort : Sort → Shown → State → (State → Loaded) → Loaded
 load-sort record-sort f s rest = load-entry (entry-of (f .place) (f .content)) (f .place) s rest
-load-sort end-field f s rest = record { state = s; result = Ok (f .place + 3) }
+load-sort end-field f s rest = ended-as s (Ok (f .place + 3))
 load-sort head-field f s rest = stopped s (Bytes (fault-at (f .place)))
 load-sort line-field f s rest = stopped s (Bytes (fault-at (f .place)))
 load-sort order-field f s rest = stopped s (Bytes (fault-at (f .place)))
@@ -60,6 +63,53 @@ load-field (Err e) s rest = stopped s (Bytes e)
 unfoldable pub load-fields : State → ℕ → List Piece → Loaded
 load-fields s at [] = stopped s (Bytes (fault-at at))
 load-fields s at (p ∷ ps) = load-field (next-field Run at (p ∷ ps)) s (λ t next. load-fields t next ps)
+
+-- the place of a fault
+abbrev pub place-of : RunFault → ℕ
+place-of f = run-fault f .place
+
+-- whether the next field follows, as the reading of one field answers
+pub data Went : Type 0 where
+  onward ended : Went
+  fell : RunFault → Went
+
+-- one field behind the head was read by a case that was s and is t after it
+abbrev pub Turned : State → State → Shown → Went → Type 0
+Turned s t f onward = (rest : State → Loaded) → load-sort (f .sort) f s rest ≡ rest t
+Turned s t f ended = (rest : State → Loaded) → load-sort (f .sort) f s rest ≡ ended-as t (Ok (f .place + 3))
+Turned s t f (fell e) = (rest : State → Loaded) → load-sort (f .sort) f s rest ≡ stopped t e
+
+-- the bytes of that field are those of the record that the case has now, or of the end; a fault adds none
+abbrev pub Gained : State → State → Shown → Went → Type 0
+Gained s t f onward = (r : Record) × (t ≡ with-record s r) × (field (tag-of Run (f .sort)) (f .content) ≡ record-field r)
+Gained s t f ended = (t ≡ s) × (field (tag-of Run (f .sort)) (f .content) ≡ field 3 [])
+Gained s t f (fell e) = (t ≡ s) × (place-of e ≡ f .place)
+
+-- as the code answers it: true where the next field follows, false at the end
+abbrev pub went-field : Result Bool RunFault → Went
+went-field (Ok true) = onward
+went-field (Ok false) = ended
+went-field (Err e) = fell e
+
+-- a case that was s and is t has gained the records that the bytes from a place on say, before those that are left
+pub record Walked (bs : List ℕ) (from : ℕ) (s : State) (left : List ℕ) (t : State) : Type 0 where
+  pub more : List Record
+  pub records : t .records ≡ s .records ++ more
+  pub processors : t .processors ≡ s .processors
+  pub bytes : drop from bs ≡ all-of record-field more ++ left
+
+-- what is left where the fields ended: the end field and what stands behind it, or the field at fault
+abbrev pub left-by : Result (Unit {0}) RunFault → ℕ → List ℕ → List ℕ
+left-by (Ok u) to bs = field 3 [] ++ drop to bs
+left-by (Err e) to bs = drop (place-of e) bs
+
+abbrev pub told-by : Result (Unit {0}) RunFault → ℕ → Result ℕ RunFault
+told-by (Ok u) to = Ok to
+told-by (Err e) to = Err e
+
+abbrev pub Not-before : ℕ → Result (Unit {0}) RunFault → Type 0
+Not-before from (Ok u) = Unit {0}
+Not-before from (Err e) = from ≤ place-of e
 
 -- why a head is refused, if it is: its marks, then its number of processors
 abbrev pub head-refusal : ℕ → ℕ → RunHead → Option Refusal

@@ -47,7 +47,7 @@ impl<M: Model, C: Clock> Case<M, C> {
     }
 
     // A refused call has as its place the number of records plus 1.
-    fn fault(&self, refusal: Refusal) -> Fault
+    pub(super) fn fault(&self, refusal: Refusal) -> Fault
         ensures { λ r. ⌜ r ≡ case-fault (view (now (self .entry))) refusal ⌝ }
     {
         Fault {
@@ -75,7 +75,7 @@ impl<M: Model, C: Clock> Case<M, C> {
     }
 
     // One record more, if it is lawful.
-    fn admit_lawful(&mut self, e: Entry) -> Result<u8, Refusal>
+    pub(super) fn admit_lawful(&mut self, e: Entry) -> Result<u8, Refusal>
         ensures answer { λ r. ⌜ r ≡ numbered-by (judgement (now (self .entry) .processors) (vec-items (now (self .entry) .records)) e) (view (now (self .entry))) ⌝ }
         ensures state { λ _. ⌜ view (now (self .exit)) ≡ admit-by (judgement (now (self .entry) .processors) (vec-items (now (self .entry) .records)) e) (view (now (self .entry))) .state ⌝ }
         ensures model { λ _. ⌜ now (self .exit) .model ≡ now (self .entry) .model ⌝ }
@@ -115,7 +115,7 @@ impl<M: Model, C: Clock> Case<M, C> {
         }
     }
 
-    fn close(&mut self) -> Option<Verdict>
+    pub(super) fn close(&mut self) -> Option<Verdict>
         ensures answer { λ r. ⌜ r ≡ sealed-verdict (vec-items (now (self .entry) .records)) ⌝ }
         ensures state { λ _. ⌜ view (now (self .exit)) ≡ sealed (view (now (self .entry))) ⌝ }
         ensures model { λ _. ⌜ now (self .exit) .model ≡ now (self .entry) .model ⌝ }

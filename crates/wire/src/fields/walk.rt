@@ -18,7 +18,7 @@ fn field_named<'a>(text: Text, tag: u8, part: Part<'a>) -> Result<Field<'a>, Byt
     ensures value { λ r. ⌜ seen r ≡ named (sort-of text tag) (part .entry .place) (now (part .entry .content)) ⌝ }
     ensures whole { λ r. ⌜ Cases r
         (λ f. (tag ≡ tag-of text (shown f .sort)) × (shown f .place ≡ part .entry .place) × (shown f .content ≡ now (part .entry .content)))
-        (λ _. Unit {0}) ⌝ }
+        (λ e. e ≡ fault-at (part .entry .place)) ⌝ }
 {
     match (text, tag) {
         (Text::Run, 0x01) => Ok(Field::Head(part)),
@@ -55,7 +55,7 @@ impl<'a> Reader<'a> {
     // The field that stands at the reader's place, which moves on behind it; a fault leaves the reader as it was.
     pub fn next(&mut self) -> Result<Field<'a>, ByteFault>
         ensures answer { λ r. ⌜ seen r ≡ next-field (now (self .entry) .text) (now (self .entry) .at) (left (now (self .entry))) ⌝ }
-        ensures passed { λ r. ⌜ Cases r (λ f. Passed (now (self .entry)) (now (self .exit)) (shown f)) (λ _. now (self .exit) .at ≡ now (self .entry) .at) ⌝ }
+        ensures passed { λ r. ⌜ Cases r (λ f. Passed (now (self .entry)) (now (self .exit)) (shown f)) (λ e. (now (self .exit) .at ≡ now (self .entry) .at) × (e ≡ fault-at (now (self .entry) .at))) ⌝ }
         ensures bytes { λ _. ⌜ now (self .exit) .bytes ≡ now (self .entry) .bytes ⌝ }
         ensures text { λ _. ⌜ now (self .exit) .text ≡ now (self .entry) .text ⌝ }
     {
