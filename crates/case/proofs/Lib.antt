@@ -1,3 +1,4 @@
+pub mod Loads
 pub mod Progress
 pub mod Sealed
 pub mod Turns

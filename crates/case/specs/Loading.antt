@@ -2,7 +2,7 @@
 use mathlib.Core.Path.{_≡_}
 use mathlib.Core.Bool.{Bool, true, false, cond, not, _&&_}
 use mathlib.Core.List.{List, [], _∷_, _++_}
-use Prim.Native.Nat.{ℕ, _+_, _*_, _≤_}
+use Prim.Native.Nat.{ℕ, _+_, _*_, _≤_, _<_}
 use lib.Dec.{eqb, ltb}
 use lib.ListN.{length, take, drop}
 use Rattle.std.specs.declared.option.Option.{Option}
@@ -20,7 +20,7 @@ use Rattle.wire.specs.declared.faults.RunFault.{RunFault}
 use Rattle.wire.specs.declared.faults.RunFault.the-variants.{Bytes, Content}
 use Rattle.wire.specs.declared.fields.RunHead.{RunHead}
 use Rattle.wire.specs.declared.fields.Text.the-variants.{Run}
-use Rattle.wire.specs.Bytes.{field, all-of, record-field, run-head}
+use Rattle.wire.specs.Bytes.{field, all-of, record-field, run-head, run-bytes}
 use Rattle.wire.specs.Faults.{run-fault}
 use Rattle.wire.specs.Fields.{Piece, pieces, Sort, head-field, record-field as record-sort, line-field, order-field, orphan-field, end-field, tag-of, Shown, fault-at, next-field, later, entry-of, run-head-of}
 use Rattle.case.specs.State.{State, opened, with-record}
@@ -122,10 +122,13 @@ abbrev pub load-end : Result ℕ RunFault → ℕ → State → Outcome (Result 
 load-end (Err f) n s = record { answer = Err f; state = s }
 load-end (Ok place) n s = cond (ltb place n) (record { answer = Err (Bytes (fault-at place)); state = s }) (record { answer = Ok (sealed-verdict (s .records)); state = sealed s })
 
+abbrev pub go-on : ℕ → Loaded → Outcome (Result (Option Verdict) RunFault)
+go-on n l = load-end (l .result) n (l .state)
+
 -- a head that is refused leaves the case as it was; otherwise the case begins anew
 abbrev pub load-begun : Option Refusal → ℕ → State → ℕ → List Piece → Outcome (Result (Option Verdict) RunFault)
 load-begun (Some r) p s n ps = record { answer = Err (Content r 0); state = s }
-load-begun None p s n ps = let l = load-fields (opened p) 6 ps in load-end (l .result) n (l .state)
+load-begun None p s n ps = go-on n (load-fields (opened p) 6 ps)
 
 abbrev pub load-headed : Result RunHead ByteFault → ℕ → ℕ → State → ℕ → List Piece → Outcome (Result (Option Verdict) RunFault)
 load-headed (Ok h) model clock s n ps = load-begun (head-refusal model clock h) (h .processors) s n ps
@@ -148,12 +151,31 @@ load-by (Err e) model clock s n ps = record { answer = Err (Bytes e); state = s 
 abbrev pub loading : ℕ → ℕ → State → List ℕ → Outcome (Result (Option Verdict) RunFault)
 loading model clock s bs = load-by (next-field Run 0 (pieces bs)) model clock s (length bs) (later (pieces bs))
 
--- the bytes begin with a head and the records of the case
+-- the first bytes are exactly a head and the records of the case
 abbrev pub Front : ℕ → ℕ → State → List ℕ → Type 0
 Front model clock s bs = take (6 + 33 * length (s .records)) bs ≡ run-head (s .processors) model clock ++ all-of record-field (s .records)
 
--- the run that the case writes loads, whatever the case was before, as the same processors and records
+-- a run that loads is written as the same bytes; at a refusal behind the head the case has the records before it, and at the head it is as it was
+abbrev pub Kept : ℕ → ℕ → State → State → List ℕ → Result (Option Verdict) RunFault → Type 0
+Kept model clock s t bs (Ok v) = run-bytes (t .processors) model clock (t .records) ≡ bs
+Kept model clock s t bs (Err f) = (place-of f ≡ 0 → t ≡ s) × (0 < place-of f → Front model clock t bs)
+
+-- the run that a case writes loads, whatever the other case was before, as the same processors and records
 pub record Reloads (model clock : ℕ) (before s : State) (bs : List ℕ) : Type 0 where
   pub answer : loading model clock before bs .answer ≡ Ok (sealed-verdict (s .records))
   pub processors : loading model clock before bs .state .processors ≡ s .processors
   pub records : loading model clock before bs .state .records ≡ s .records
+
+-- what the head answers: it passed, and the case is opened; or it is refused, and the case is as it was
+abbrev pub begun-as : Option Refusal → Result (Unit {0}) RunFault
+begun-as None = Ok tt
+begun-as (Some r) = Err (Content r 0)
+
+abbrev pub begun-state : Option Refusal → ℕ → State → State
+begun-state None p s = opened p
+begun-state (Some r) p s = s
+
+abbrev pub Headed : ℕ → ℕ → State → List ℕ → State → ℕ → Result (Unit {0}) RunFault → Type 0
+Headed model clock s bs t at (Ok u) =
+    (loading model clock s bs ≡ go-on (length bs) (load-fields t 6 (pieces (drop 6 bs)))) × (at ≡ 6) × (t .records ≡ []) × (drop 0 bs ≡ run-head (t .processors) model clock ++ drop 6 bs)
+Headed model clock s bs t at (Err e) = (loading model clock s bs ≡ record { answer = Err e; state = s }) × (t ≡ s) × (place-of e ≡ 0)
