@@ -1,3 +1,4 @@
 pub mod Digits
+pub mod Found
 pub mod Over
 pub mod Walk

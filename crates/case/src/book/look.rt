@@ -1,0 +1,35 @@
+// Looking at a case.
+ghost use mathlib.Core.Path.{_≡_};
+ghost use Rattle.case.specs.Views.{view};
+use crate::book::Case;
+use crate::stages::Stage;
+use memory::clocks::Clock;
+use memory::models::Model;
+use memory::records::Record;
+
+impl<M: Model, C: Clock> Case<M, C> {
+    pub fn processors(&self) -> u8
+        ensures { λ r. ⌜ r ≡ view (now (self .entry)) .processors ⌝ }
+    {
+        self.processors
+    }
+
+    pub fn records(&self) -> &[Record]
+        ensures { λ r. ⌜ now r ≡ view (now (self .entry)) .records ⌝ }
+    {
+        self.records.as_slice()
+    }
+
+    pub fn stage(&self) -> Stage
+        ensures { λ r. ⌜ r ≡ view (now (self .entry)) .stage ⌝ }
+    {
+        self.stage
+    }
+
+    // The total of steps since the opening.
+    pub fn steps(&self) -> u64
+        ensures { λ r. ⌜ r ≡ view (now (self .entry)) .total ⌝ }
+    {
+        self.steps
+    }
+}
