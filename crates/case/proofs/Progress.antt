@@ -84,8 +84,7 @@ module _ (bs : List ℕ) (from : ℕ) (s : State) (at : ℕ) (t : State) (h : Pr
     at-end turned (is, bytes) =
         let w = h .walked in
         let none : length (f .content) ≡ 0 = omega (arith, ap length bytes) in
-        let place : f .place + 3 ≡ next = omega (arith, k .place, k .moved) in
-        (
+        let place : f .place + 3 ≡ next = omega (arith, k .place, k .moved) in (
           step ∙ turned (λ v. load-fields v next (pieces (drop next bs))) ∙ ap (λ n. ended-as u (Ok n)) place,
           record {
             more = w .more;
@@ -100,8 +99,7 @@ module _ (bs : List ℕ) (from : ℕ) (s : State) (at : ℕ) (t : State) (h : Pr
         (load-fields s from (pieces (drop from bs)) ≡ stopped u e) × Walked bs from s (drop (place-of e) bs) u × (from ≤ place-of e)
     at-fault e turned (is, place) =
         let w = h .walked in
-        let here : at ≡ place-of e = sym (place ∙ k .place) in
-        (
+        let here : at ≡ place-of e = sym (place ∙ k .place) in (
           step ∙ turned (λ v. load-fields v next (pieces (drop next bs))),
           record {
             more = w .more;

@@ -40,8 +40,7 @@ module _ (s t : State) (at : ℕ) (c : List ℕ) (e : Entry) (says : Ok e ≡ en
       go : (j : Result Record Refusal) → judgement-now ≡ j → Err x ≡ numbered-by j s → t ≡ admit-by j s .state → Turned s t the-field (fell (Content x at)) × Gained s t the-field (fell (Content x at))
       go (Ok r) is told after = let z : _≡_ {A = ℕ} 0 1 = cc in absurd (omega arith)
       go (Err y) is told after =
-          let same : y ≡ x = cc in
-          (
+          let same : y ≡ x = cc in (
             λ rest. ap (λ q. load-entry q at s rest) (sym says) ∙ ap (λ j. load-judged j at s rest) is ∙ (let back = sym after in λ i. record { state = back i; result = Err (Content (same i) at) }),
             (after, refl),
           )

@@ -23,6 +23,7 @@ use Rattle.wire.specs.declared.fields.Text.the-variants.{Run}
 use Rattle.wire.specs.Bytes.{field, all-of, record-field, run-head, run-bytes}
 use Rattle.wire.specs.Faults.{run-fault}
 use Rattle.wire.specs.Fields.{Piece, pieces, Sort, head-field, record-field as record-sort, line-field, order-field, orphan-field, end-field, tag-of, Shown, fault-at, next-field, later, entry-of, run-head-of}
+use Rattle.wire.specs.Tags.{run-end-tag}
 use Rattle.case.specs.State.{State, opened, with-record}
 use Rattle.case.specs.Calls.{Outcome, sealed-verdict, sealed}
 
@@ -82,7 +83,7 @@ Turned s t f (fell e) = (rest : State → Loaded) → load-sort (f .sort) f s re
 -- the bytes of that field are those of the record that the case has now, or of the end; a fault adds none
 abbrev pub Gained : State → State → Shown → Went → Type 0
 Gained s t f onward = (r : Record) × (t ≡ with-record s r) × (field (tag-of Run (f .sort)) (f .content) ≡ record-field r)
-Gained s t f ended = (t ≡ s) × (field (tag-of Run (f .sort)) (f .content) ≡ field 3 [])
+Gained s t f ended = (t ≡ s) × (field (tag-of Run (f .sort)) (f .content) ≡ field run-end-tag [])
 Gained s t f (fell e) = (t ≡ s) × (place-of e ≡ f .place)
 
 -- as the code answers it: true where the next field follows, false at the end
@@ -100,7 +101,7 @@ pub record Walked (bs : List ℕ) (from : ℕ) (s : State) (left : List ℕ) (t 
 
 -- what is left where the fields ended: the end field and what stands behind it, or the field at fault
 abbrev pub left-by : Result (Unit {0}) RunFault → ℕ → List ℕ → List ℕ
-left-by (Ok u) to bs = field 3 [] ++ drop to bs
+left-by (Ok u) to bs = field run-end-tag [] ++ drop to bs
 left-by (Err e) to bs = drop (place-of e) bs
 
 abbrev pub told-by : Result (Unit {0}) RunFault → ℕ → Result ℕ RunFault

@@ -11,8 +11,6 @@ ghost use Rattle.case.specs.Views.{view};
 ghost use Rattle.wire.specs.Bytes.{notice-bytes};
 ghost use Rattle.wire.specs.Faults.{run-fault};
 use case::book::Case;
-use wire::faults::RunFault;
-use wire::writing;
 use memory::clocks::Clock;
 use memory::clocks::GlobalClock;
 use memory::clocks::GlobalTime;
@@ -23,6 +21,8 @@ use memory::models::Sc;
 use memory::models::ScModel;
 use std::alloc::AllocError;
 use std::alloc::Global;
+use wire::faults::RunFault;
+use wire::writing;
 
 // Only so many bytes of the input count.
 pub const INPUT_LIMIT: usize = 4096;
@@ -57,7 +57,12 @@ fn write_refusal(fault: RunFault, room: &mut [u8]) -> usize
 }
 
 // What is written for the bytes of a run, under a model and a clock.
-pub fn check<M: Model + Drop, C: Clock + Drop>(heap: Global, model: M, clock: C, bytes: &[u8]) -> Result<Vec<u8>, AllocError>
+pub fn check<M: Model + Drop, C: Clock + Drop>(
+    heap: Global,
+    model: M,
+    clock: C,
+    bytes: &[u8],
+) -> Result<Vec<u8>, AllocError>
     ensures { λ r. ⌜ made r (λ v. vec-items v ≡ output (M·Model .mark) (C·Clock .mark) (now (bytes .entry))) ⌝ }
 {
     let mut case = Case::new(heap, model, clock)?;

@@ -65,7 +65,7 @@ orphan-none S rs l some within e order h =
     (λ s. let w : ℕ = s .0 in
     let wrote = and-parts (R .store w) (eqb (R .addr w) (R .addr l)) (s .1 .to-it) in
     let reads : reads-from x (at rs w) ≡ true =
-        and-from (is-load (x .kind)) _ (p .0) (and-from (not (eqb (x .value) 0)) _ (q .0) (and-from (is-store (at rs w .kind)) _ (wrote .0) (and-from (eqb (at rs w .address) (x .address)) _ (wrote .1) (eq-eqb _ _ (s .1 .value ∙ sym read)))))
+    and-from (is-load (x .kind)) _ (p .0) (and-from (not (eqb (x .value) 0)) _ (q .0) (and-from (is-store (at rs w .kind)) _ (wrote .0) (and-from (eqb (at rs w .address) (x .address)) _ (wrote .1) (eq-eqb _ _ (s .1 .value ∙ sym read)))))
     in
     both-ways _ (none-at (reads-from x) rs (w - 1) unwritten (omega (arith, s .1 .known .some, s .1 .known .within))) reads)
     (source R (R .addr l) 0 (take i order) (all-take (Known R) i order (all-known R order (distinct R order (h .known) (h .once)))))

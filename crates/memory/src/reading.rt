@@ -9,7 +9,11 @@ use crate::records::Record;
 pub fn reads_from(load: Record, store: Record) -> bool
     ensures { λ r. ⌜ r ≡ reads-from load store ⌝ }
 {
-    load.kind.is_load() && load.value != 0 && store.kind.is_store() && store.address == load.address && store.value == load.value
+    load.kind.is_load()
+        && load.value != 0
+        && store.kind.is_store()
+        && store.address == load.address
+        && store.value == load.value
 }
 
 fn reads_any(load: Record, records: &[Record]) -> bool

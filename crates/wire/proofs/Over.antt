@@ -32,8 +32,8 @@ module _ (xs bs cs : List ℕ) (at end : ℕ) (ends : at + length bs ≡ end) (f
       let kept : take end (front ++ rest) ≡ front = take-at front rest end (front-length ∙ ends) in
       let place : end + length cs ≡ length front + length cs = ap (λ n. n + length cs) (sym (front-length ∙ ends)) in
       let left : drop (end + length cs) (front ++ rest) ≡ drop (at + length (bs ++ cs)) xs =
-          ap (λ n. drop n (front ++ rest)) place ∙ drop-append-add front rest (length cs) ∙ drop-drop (length cs) (at + length bs) xs
-          ∙ ap (λ n. drop n xs) (add-assoc at (length bs) (length cs) ∙ ap (λ n. at + n) (sym (length-append bs cs)))
+      ap (λ n. drop n (front ++ rest)) place ∙ drop-append-add front rest (length cs) ∙ drop-drop (length cs) (at + length bs) xs
+      ∙ ap (λ n. drop n xs) (add-assoc at (length bs) (length cs) ∙ ap (λ n. at + n) (sym (length-append bs cs)))
       in
       ap (λ l. take end l ++ (cs ++ drop (end + length cs) l)) joined
       ∙ (λ i. kept i ++ (cs ++ left i))

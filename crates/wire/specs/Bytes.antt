@@ -9,6 +9,7 @@ use Rattle.memory.specs.declared.refusals.Fault.{Fault}
 use Rattle.memory.specs.declared.verdicts.Verdict.{Verdict}
 use Rattle.memory.specs.Admission.{logged}
 use Rattle.memory.specs.Numbers.{verdict-number, refusal-number, layer-number}
+use Rattle.wire.specs.Tags.{run-head-tag, record-tag, run-end-tag, paper-head-tag, order-tag, orphan-tag, slip-tag, notice-tag, paper-end-tag}
 
 -- n in w bytes, the highest first
 abbrev pub digits : ℕ → ℕ → List ℕ
@@ -41,30 +42,30 @@ abbrev pub entry-in : List ℕ → Entry
 entry-in c = record { processor = getD c 0 0; kind = getD c 1 0; address = number-at c 2 4; value = number-at c 6 8; enter = number-at c 14 8; commit = number-at c 22 8 }
 
 abbrev pub record-field : Record → List ℕ
-record-field r = field 2 (entry-bytes (logged r))
+record-field r = field record-tag (entry-bytes (logged r))
 
 -- a run of p processors under two marks: a head, its records, an end
 abbrev pub run-head : ℕ → ℕ → ℕ → List ℕ
-run-head p model clock = field 1 (p ∷ model ∷ clock ∷ [])
+run-head p model clock = field run-head-tag (p ∷ model ∷ clock ∷ [])
 
 abbrev pub run-bytes : ℕ → ℕ → ℕ → List Record → List ℕ
-run-bytes p model clock rs = run-head p model clock ++ (all-of record-field rs ++ field 3 [])
+run-bytes p model clock rs = run-head p model clock ++ (all-of record-field rs ++ field run-end-tag [])
 
 -- a slip: the verdict and the total of steps
 abbrev pub slip-bytes : Option Verdict → ℕ → List ℕ
-slip-bytes v steps = field 29 (verdict-number v ∷ digits 8 steps)
+slip-bytes v steps = field slip-tag (verdict-number v ∷ digits 8 steps)
 
 -- a paper: a head with the verdict's number, two marks and the number of records, a body, an end
 abbrev pub paper-bytes : ℕ → ℕ → ℕ → ℕ → List ℕ → List ℕ
-paper-bytes verdict model clock n body = field 16 (verdict ∷ model ∷ clock ∷ n ∷ []) ++ (body ++ field 31 [])
+paper-bytes verdict model clock n body = field paper-head-tag (verdict ∷ model ∷ clock ∷ n ∷ []) ++ (body ++ field paper-end-tag [])
 
 -- the body of an order, and that of an orphan
 abbrev pub order-body : List ℕ → List ℕ
-order-body order = field 18 order
+order-body order = field order-tag order
 
 abbrev pub orphan-body : ℕ → List ℕ
-orphan-body l = field 19 (l ∷ [])
+orphan-body l = field orphan-tag (l ∷ [])
 
 -- a notice of a refusal: number, layer, place in 4 bytes
 abbrev pub notice-bytes : Fault → List ℕ
-notice-bytes f = field 30 (refusal-number (f .refusal) ∷ layer-number (f .layer) ∷ digits 4 (f .place))
+notice-bytes f = field notice-tag (refusal-number (f .refusal) ∷ layer-number (f .layer) ∷ digits 4 (f .place))

@@ -14,6 +14,7 @@ use Rattle.wire.specs.declared.fields.RunHead.{RunHead}
 use Rattle.wire.specs.declared.fields.Text.{Text}
 use Rattle.wire.specs.declared.fields.Text.the-variants.{Run, Paper}
 use Rattle.wire.specs.Bytes.{entry-in}
+use Rattle.wire.specs.Tags.{run-head-tag, record-tag, run-end-tag, paper-head-tag, line-tag, order-tag, orphan-tag, paper-end-tag}
 
 -- a field as it stands in bytes: whole, with its tag and its content, or cut short
 pub data Piece : Type 0 where
@@ -42,28 +43,31 @@ pub data Sort : Type 0 where
 
 -- what a tag stands for, in a run and in a paper
 abbrev pub sort-of : Text → ℕ → Option Sort
-sort-of Run tag = cond (eqb tag 1) (Some head-field) (cond (eqb tag 2) (Some record-field) (cond (eqb tag 3) (Some end-field) None))
+sort-of Run tag =
+    cond (eqb tag run-head-tag) (Some head-field)
+    (cond (eqb tag record-tag) (Some record-field)
+    (cond (eqb tag run-end-tag) (Some end-field) None))
 sort-of Paper tag =
-    cond (eqb tag 16) (Some head-field)
-    (cond (eqb tag 17) (Some line-field)
-    (cond (eqb tag 18) (Some order-field)
-    (cond (eqb tag 19) (Some orphan-field)
-    (cond (eqb tag 31) (Some end-field) None))))
+    cond (eqb tag paper-head-tag) (Some head-field)
+    (cond (eqb tag line-tag) (Some line-field)
+    (cond (eqb tag order-tag) (Some order-field)
+    (cond (eqb tag orphan-tag) (Some orphan-field)
+    (cond (eqb tag paper-end-tag) (Some end-field) None))))
 
 -- and the tag of a field; a text has no field of the sorts with 0
 abbrev pub tag-of : Text → Sort → ℕ
-tag-of Run head-field = 1
-tag-of Run record-field = 2
+tag-of Run head-field = run-head-tag
+tag-of Run record-field = record-tag
 tag-of Run line-field = 0
 tag-of Run order-field = 0
 tag-of Run orphan-field = 0
-tag-of Run end-field = 3
-tag-of Paper head-field = 16
+tag-of Run end-field = run-end-tag
+tag-of Paper head-field = paper-head-tag
 tag-of Paper record-field = 0
-tag-of Paper line-field = 17
-tag-of Paper order-field = 18
-tag-of Paper orphan-field = 19
-tag-of Paper end-field = 31
+tag-of Paper line-field = line-tag
+tag-of Paper order-field = order-tag
+tag-of Paper orphan-field = orphan-tag
+tag-of Paper end-field = paper-end-tag
 
 -- a field that was read: what it is, the place of its tag, its content
 pub record Shown : Type 0 where

@@ -22,8 +22,8 @@ pub enum RunFault {
 pub impl From<ByteFault> for RunFault as RunFromBytes {
     ghost converts = { λ e r. r ≡ Bytes e };
 
-    fn from(e: ByteFault) -> RunFault {
-        RunFault::Bytes(e)
+    fn from(fault: ByteFault) -> RunFault {
+        RunFault::Bytes(fault)
     }
 }
 

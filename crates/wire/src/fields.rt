@@ -45,4 +45,3 @@ pub struct Reader<'a> {
     text: Text,
     ghost within: { at ≤ length (bytes .now) },
 }
-

@@ -8,6 +8,7 @@ ghost use Rattle.memory.specs.Numbers.{verdict-number, refusal-number, layer-nu
 ghost use Rattle.wire.specs.Bytes.{digits, field, all-of, entry-bytes, record-field, run-bytes, slip-bytes, paper-bytes, notice-bytes};
 ghost use Rattle.wire.specs.Written.{over, Written, paper-number, paper-body};
 use crate::fields::RunHead;
+use crate::tags;
 use memory::records::Record;
 use memory::refusals::Fault;
 use memory::verdicts::Verdict;
@@ -70,7 +71,7 @@ fn put_records(out: &mut [u8], start: usize, records: &[Record]) -> usize
 {
     let mut at = start;
     for r in records {
-        at = put_field(out, at, 0x02, &record_content(*r));
+        at = put_field(out, at, tags::RECORD, &record_content(*r));
     }
     at
 }
@@ -82,9 +83,14 @@ pub fn write_run(out: &mut [u8], head: RunHead, records: &[Record]) -> Result<us
     if out.len() < 9 || records.len() > (out.len() - 9) / 33 {
         return Err(TooShort);
     }
-    let first = put_field(out, 0, 0x01, &[head.processors, head.model, head.clock]);
+    let first = put_field(
+        out,
+        0,
+        tags::RUN_HEAD,
+        &[head.processors, head.model, head.clock],
+    );
     let end = put_records(out, first, records);
-    Ok(put_field(out, end, 0x03, &[]))
+    Ok(put_field(out, end, tags::RUN_END, &[]))
 }
 
 fn slip_content(verdict: Option<Verdict>, steps: u64) -> [u8; 9]
@@ -103,7 +109,7 @@ pub fn write_slip(out: &mut [u8], verdict: Option<Verdict>, steps: u64) -> Resul
     if out.len() < 12 {
         return Err(TooShort);
     }
-    Ok(put_field(out, 0, 0x1d, &slip_content(verdict, steps)))
+    Ok(put_field(out, 0, tags::SLIP, &slip_content(verdict, steps)))
 }
 
 impl Paper<'_> {
@@ -131,8 +137,8 @@ impl Paper<'_> {
         ensures bytes { λ _. ⌜ now (out .exit) ≡ over (now (out .entry)) at (paper-body (self .entry)) ⌝ }
     {
         match self {
-            Paper::Order(order) => put_field(out, at, 0x12, order),
-            Paper::Orphan(load) => put_field(out, at, 0x13, &[load]),
+            Paper::Order(order) => put_field(out, at, tags::ORDER, order),
+            Paper::Orphan(load) => put_field(out, at, tags::ORPHAN, &[load]),
         }
     }
 }
@@ -144,17 +150,30 @@ pub fn write_paper(out: &mut [u8], head: PaperHead, paper: Paper<'_>) -> Result<
     if out.len() < 10 + paper.body_len() {
         return Err(TooShort);
     }
-    let body = put_field(out, 0, 0x10, &[paper.number(), head.model, head.clock, head.records]);
+    let body = put_field(
+        out,
+        0,
+        tags::PAPER_HEAD,
+        &[paper.number(), head.model, head.clock, head.records],
+    );
     let end = paper.put_body(out, body);
-    Ok(put_field(out, end, 0x1f, &[]))
+    Ok(put_field(out, end, tags::PAPER_END, &[]))
 }
 
 fn notice_content(fault: Fault) -> [u8; 6]
     ensures { λ r. ⌜ r ≡ refusal-number (fault .refusal) ∷ layer-number (fault .layer) ∷ digits 4 (fault .place) ⌝ }
 {
     let mut content = [0; 6];
-    put(&mut content, 0, &[fault.refusal.number(), fault.layer.number()]);
-    put(&mut content, 2, &((fault.place % 4294967296) as u32).to_be_bytes());
+    put(
+        &mut content,
+        0,
+        &[fault.refusal.number(), fault.layer.number()],
+    );
+    put(
+        &mut content,
+        2,
+        &((fault.place % 4294967296) as u32).to_be_bytes(),
+    );
     content
 }
 
@@ -165,5 +184,5 @@ pub fn write_notice(out: &mut [u8], fault: Fault) -> Result<usize, TooShort>
     if out.len() < 9 {
         return Err(TooShort);
     }
-    Ok(put_field(out, 0, 0x1e, &notice_content(fault)))
+    Ok(put_field(out, 0, tags::NOTICE, &notice_content(fault)))
 }

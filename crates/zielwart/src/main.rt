@@ -8,8 +8,7 @@ use std::error::AnyError;
 use std::io;
 use std::io::Read;
 use std::io::Write;
-
-const NOTICE_TAG: u8 = 0x1e;
+use wire::tags;
 
 // How many bytes came; at most `INPUT_LIMIT`, and what lies past them does not count.
 fn read_input(rt: &LibcRuntime, buffer: &mut [u8; INPUT_LIMIT]) -> io::Result<usize>
@@ -33,27 +32,47 @@ fn run(rt: &LibcRuntime) -> Result<(), AnyError> {
     let n = read_input(rt, &mut buffer)?;
     let output = answer(rt.alloc(), &buffer[0..n])?;
     rt.stdout().write_all(output.as_slice())?;
-    if output.first().copied() == Some(NOTICE_TAG) {
-        return Err("the run is refused; the notice says why".into());
+    if output.first().copied() == Some(tags::NOTICE) {
+        return Err("the run is refused, and the notice says why".into());
     }
     Ok(())
 }
 
 fn help(rt: &LibcRuntime) -> Result<(), AnyError> {
     println!(rt, "usage: zielwart < RUN > ANSWER")?;
-    println!(rt, "Reads a run in bytes from standard input, of which the first 4,096 count, and writes")?;
-    println!(rt, "its slip and its paper, if there is one, or a notice of the refusal, to standard output.")?;
-    println!(rt, "docs/FORMAT.md has the bytes. `explain` says the same in words.")?;
-    println!(rt, "Exit status: 0 where a slip was written, 1 where a notice was, or something failed.")?;
+    println!(
+        rt,
+        "Reads a run in bytes from standard input, of which the first 4,096 count, and writes its slip"
+    )?;
+    println!(
+        rt,
+        "and its paper, if there is one, or a notice of the refusal, to standard output."
+    )?;
+    println!(
+        rt,
+        "docs/FORMAT.md has the bytes; the program explain says the same in words."
+    )?;
+    println!(
+        rt,
+        "Exit status: 0 where a slip was written, 1 where a notice was, or where something failed."
+    )?;
     Ok(())
 }
 
-fn main(rt: LibcRuntime) -> Result<(), AnyError> {
-    let mut args = env::args(&rt)?;
+fn choose(rt: &LibcRuntime) -> Result<(), AnyError> {
+    let mut args = env::args(rt)?;
     let _ = args.next();
     match args.next() {
-        None => rt.report(run(&rt)),
-        Some(word) if word.as_str() == "--help" => rt.report(help(&rt)),
-        Some(_) => rt.report(Err("zielwart takes no arguments but --help".into())),
+        None => run(rt),
+        Some(word) if word.as_str() == "--help" => help(rt),
+        Some(_) => Err("takes no argument but --help".into()),
     }
+}
+
+fn main(rt: LibcRuntime) -> Result<(), AnyError> {
+    let done = choose(&rt);
+    if let Err(e) = &done {
+        eprintln!(rt, "zielwart: {e}")?;
+    }
+    done
 }

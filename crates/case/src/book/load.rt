@@ -46,7 +46,8 @@ impl<M: Model, C: Clock> Case<M, C> {
         match field {
             Field::Record(part) => self.load_record(part),
             Field::End { .. } => Ok(false),
-            Field::Head(part) | Field::Line(part) | Field::Order(part) | Field::Orphan(part) => Err(RunFault::Bytes(ByteFault { place: part.place })),
+            Field::Head(part) | Field::Line(part) | Field::Order(part) | Field::Orphan(part) =>
+                Err(RunFault::Bytes(ByteFault { place: part.place })),
         }
     }
 

@@ -12,6 +12,7 @@ use crate::fields::Field;
 use crate::fields::Part;
 use crate::fields::Reader;
 use crate::fields::Text;
+use crate::tags;
 
 // The field of a text that a tag and a content make.
 fn field_named<'a>(text: Text, tag: u8, part: Part<'a>) -> Result<Field<'a>, ByteFault>
@@ -21,13 +22,14 @@ fn field_named<'a>(text: Text, tag: u8, part: Part<'a>) -> Result<Field<'a>, Byt
         (λ e. e ≡ fault-at (part .entry .place)) ⌝ }
 {
     match (text, tag) {
-        (Text::Run, 0x01) => Ok(Field::Head(part)),
-        (Text::Run, 0x02) => Ok(Field::Record(part)),
-        (Text::Paper, 0x10) => Ok(Field::Head(part)),
-        (Text::Paper, 0x11) => Ok(Field::Line(part)),
-        (Text::Paper, 0x12) => Ok(Field::Order(part)),
-        (Text::Paper, 0x13) => Ok(Field::Orphan(part)),
-        (Text::Run, 0x03) | (Text::Paper, 0x1f) if part.content.is_empty() => Ok(Field::End { place: part.place }),
+        (Text::Run, tags::RUN_HEAD) => Ok(Field::Head(part)),
+        (Text::Run, tags::RECORD) => Ok(Field::Record(part)),
+        (Text::Paper, tags::PAPER_HEAD) => Ok(Field::Head(part)),
+        (Text::Paper, tags::LINE) => Ok(Field::Line(part)),
+        (Text::Paper, tags::ORDER) => Ok(Field::Order(part)),
+        (Text::Paper, tags::ORPHAN) => Ok(Field::Orphan(part)),
+        (Text::Run, tags::RUN_END) | (Text::Paper, tags::PAPER_END) if part.content.is_empty() =>
+            Ok(Field::End { place: part.place }),
         _ => Err(ByteFault { place: part.place }),
     }
 }

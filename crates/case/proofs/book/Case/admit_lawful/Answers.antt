@@ -21,8 +21,7 @@ ghost-self g c =
     let j : judgement p rs e ≡ Ok r = ap (λ xs. judgement p xs e) (sym (c .as-slice .ensures .value)) ∙ sym (c .in-Continue-record .ensures tt) in
     let items = sym (c .push-reserved .ensures .items) in
     let address : e .address < 4294967296 = search needs in
-    let value : e .value < 18446744073709551616 = search needs in
-    (
+    let value : e .value < 18446744073709551616 = search needs in (
       search needs,
       (
         search needs,
