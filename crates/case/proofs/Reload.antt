@@ -8,19 +8,14 @@ use lib.Dec.{eqb, ltb, leb}
 use lib.ListN.{length, length-append}
 use Rattle.std.specs.Results.{isOk}
 use Rattle.std.specs.declared.option.Option.the-variants.{Some, None}
-use Rattle.std.specs.declared.result.Result.{Result}
 use Rattle.std.specs.declared.result.Result.the-variants.{Ok, Err}
 use Rattle.std.proofs.shelf.Tests.{and-parts, or-parts, leb-false, ltb-true, eq-eqb, le-ltb}
-use Rattle.memory.specs.declared.kinds.Kind.{Kind}
-use Rattle.memory.specs.declared.kinds.Kind.the-variants.{Load, Store, Fence}
-use Rattle.memory.specs.declared.records.Entry.{Entry}
 use Rattle.memory.specs.declared.records.Record.{Record}
-use Rattle.memory.specs.declared.refusals.Refusal.{Refusal}
 use Rattle.memory.specs.declared.refusals.Refusal.the-variants as refuse
-use Rattle.memory.specs.Admission.{opens, record-of, logged, judgement, admits, sized}
-use Rattle.memory.specs.Kinds.{kind-at, kind-number}
+use Rattle.memory.specs.Admission.{opens, logged, judgement, admits, sized}
+use Rattle.memory.specs.Kinds.{kind-number}
 use Rattle.memory.specs.Limits.{reading-limit}
-use Rattle.memory.proofs.Admitted.{Judged, judged}
+use Rattle.memory.proofs.Admitted.{judged, admits-again}
 use Rattle.wire.specs.declared.faults.RunFault.the-variants.{Bytes}
 use Rattle.wire.specs.declared.fields.Text.the-variants.{Run}
 use Rattle.wire.specs.Bytes.{field, all-of, digits, number-on, entry-bytes, entry-in, record-field, run-head, run-bytes}
@@ -31,28 +26,6 @@ use Rattle.wire.proofs.Over.{records-long}
 use Rattle.case.specs.State.{State, opened, with-record}
 use Rattle.case.specs.Calls.{sealed, sealed-verdict}
 use Rattle.case.specs.Loading.{Loaded, load-judged, load-entry, load-fields, load-begun, load-end, go-on, load-by, loading, ended-as, Reloads}
-
--- the record of a lawful entry is the one that was logged
-same-record : (p : ℕ) (rs : List Record) (r : Record) (x : Record) → judgement p rs (logged r) ≡ Ok x → x ≡ r
-same-record p rs r x h =
-    let j = judged p rs (logged r) x h in
-    let k : r .kind ≡ j .0 = some-same (sym (back (r .kind)) ∙ j .1 .kind) in
-    sym (j .1 .is) ∙ ap (λ k. record-of k (logged r)) (sym k)
-  where
-    back : (k : Kind) → kind-at (kind-number k) ≡ Some k
-    back Load = refl
-    back Store = refl
-    back Fence = refl
-
-    some-same : {a b : Kind} → Some a ≡ Some b → a ≡ b
-    some-same e = cc
-
-admits-again : (p : ℕ) (rs : List Record) (r : Record) → isOk (judgement p rs (logged r)) ≡ true → judgement p rs (logged r) ≡ Ok r
-admits-again p rs r ok = go (judgement p rs (logged r)) refl ok
-  where
-    go : (j : Result Record Refusal) → judgement p rs (logged r) ≡ j → isOk j ≡ true → judgement p rs (logged r) ≡ Ok r
-    go (Ok x) is ok = is ∙ ap Ok (same-record p rs r x is)
-    go (Err x) is ok = let z : _≡_ {A = ℕ} 0 1 = cc in absurd (omega arith)
 
 -- the bytes of a record say what was logged
 entry-back : (r : Record) → r .address < 256 ^ 4 → r .value < 256 ^ 8 → r .enter < 256 ^ 8 → r .commit < 256 ^ 8 → entry-in (entry-bytes (logged r)) ≡ logged r

@@ -68,6 +68,28 @@ logged-back p rs e r h =
     let n = number-back (e .kind) (j .0) (j .1 .kind) in
     ap logged (sym (j .1 .is)) ∙ (λ i. record { processor = e .processor; kind = n i; address = e .address; value = e .value; enter = e .enter; commit = e .commit })
 
+-- the record of a lawful entry is the one that was logged
+same-record : (p : ℕ) (rs : List Record) (r : Record) (x : Record) → judgement p rs (logged r) ≡ Ok x → x ≡ r
+same-record p rs r x h =
+    let j = judged p rs (logged r) x h in
+    let k : r .kind ≡ j .0 = some-same (sym (back (r .kind)) ∙ j .1 .kind) in
+    sym (j .1 .is) ∙ ap (λ k. record-of k (logged r)) (sym k)
+  where
+    back : (k : Kind) → kind-at (kind-number k) ≡ Some k
+    back Load = refl
+    back Store = refl
+    back Fence = refl
+
+    some-same : {a b : Kind} → Some a ≡ Some b → a ≡ b
+    some-same e = cc
+
+pub admits-again : (p : ℕ) (rs : List Record) (r : Record) → isOk (judgement p rs (logged r)) ≡ true → judgement p rs (logged r) ≡ Ok r
+admits-again p rs r ok = go (judgement p rs (logged r)) refl ok
+  where
+    go : (j : Result Record Refusal) → judgement p rs (logged r) ≡ j → isOk j ≡ true → judgement p rs (logged r) ≡ Ok r
+    go (Ok x) is ok = is ∙ ap Ok (same-record p rs r x is)
+    go (Err x) is ok = let z : _≡_ {A = ℕ} 0 1 = cc in absurd (omega arith)
+
 -- a lawful run goes on with a record that was admitted to it
 admits-push : (p : ℕ) (rs more : List Record) (r : Record) → admits p rs more ≡ true → isOk (judgement p (rs ++ more) (logged r)) ≡ true → admits p rs (more ++ r ∷ []) ≡ true
 admits-push p rs [] r h j = and-from (isOk (judgement p rs (logged r))) true (subst (λ xs. isOk (judgement p xs (logged r)) ≡ true) (append-nil rs) j) refl

@@ -1,4 +1,5 @@
 pub mod Admitted
+pub mod Lawful
 pub mod Loops
 pub mod Orphans
 pub mod Present

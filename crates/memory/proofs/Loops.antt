@@ -8,7 +8,7 @@ use native.Mathlib.Numerals.{add-one}
 use native.Mathlib.Omega.{arith}
 use lib.ListN.{length, getD, drop}
 use Rattle.std.proofs.shelf.Lists.{at-drop-more, at-drop-all}
-use Rattle.std.proofs.shelf.Tests.{or-left, cond-true, cond-false, cases-eq, cases-bool, cases-lt, both-ways}
+use Rattle.std.proofs.shelf.Tests.{or-left, or-parts, cases-eq}
 use Rattle.std.specs.declared.option.Option.the-variants.{Some, None}
 use Rattle.memory.specs.Lists.{any}
 use Rattle.memory.specs.Reading.{first-of, pick, numbered, Least}
@@ -23,6 +23,12 @@ module _ {X : Type 0} (p : X → Bool) (xs : List X) (i : ℕ) where
 
   pub any-done : length xs ≤ i → any p (drop i xs) ≡ any p xs → any p xs ≡ false
   any-done ge inv = sym inv ∙ at-drop-all (any p) xs i ge
+
+-- none passes where none of the list does
+pub none-at : {X : Type 0} (p : X → Bool) (xs : List X) (k : ℕ) (d : X) → any p xs ≡ false → k < length xs → p (getD xs k d) ≡ false
+none-at p [] k d e lt = absurd (omega arith)
+none-at p (x ∷ xs) zero d e lt = or-parts (p x) (any p xs) e .0
+none-at p (x ∷ xs) (suc k) d e lt = none-at p xs k d (or-parts (p x) (any p xs) e .1) (omega arith)
 
 -- the least of 1 to n that passes: none has up to i
 module _ (p : ℕ → Bool) (i : ℕ) (before : pick p i ≡ 0) where

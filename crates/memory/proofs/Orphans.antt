@@ -10,13 +10,14 @@ use lib.ListN.{length, getD, take}
 use Rattle.std.specs.Iters.{folded}
 use Rattle.std.specs.shelf.Lists.{All}
 use Rattle.std.proofs.shelf.Elements.{all-take}
-use Rattle.std.proofs.shelf.Tests.{and-parts, and-from, eq-eqb, eqb-true, not-true, or-parts, cases-bool, cond-true, cond-false, both-ways, eqb-false}
+use Rattle.std.proofs.shelf.Tests.{and-parts, and-from, eq-eqb, not-true, both-ways, eqb-false}
 use Rattle.memory.specs.declared.records.Record.{Record}
 use Rattle.memory.specs.Kinds.{is-load, is-store}
 use Rattle.memory.specs.Lists.{any}
 use Rattle.memory.specs.Runs.{Setting, Run, Known, run-of, blank, at}
 use Rattle.memory.specs.Legal.{writes, memory, Legal, No-order}
 use Rattle.memory.specs.Reading.{reads-from, unread, orphan}
+use Rattle.memory.proofs.Loops.{none-at}
 use Rattle.memory.proofs.Present.{Distinct, distinct, present}
 
 -- the records of xs, in their order, leave v at the address, or one of them has written what it holds
@@ -30,9 +31,6 @@ source : (R : Run) (a v : ℕ) (xs : List ℕ) → All (Known R) xs →
 source R a v [] k = inl refl
 source R a v (x ∷ xs) k = go (writes R x a) refl (source R a (cond (writes R x a) (R .value x) v) xs (k .1))
   where
-    held : Bool → ℕ
-    held b = folded (λ v x. cond (writes R x a) (R .value x) v) (cond b (R .value x) v) xs
-
     go : (b : Bool) → writes R x a ≡ b → (folded (λ v x. cond (writes R x a) (R .value x) v) (cond b (R .value x) v) xs ≡ cond b (R .value x) v) ⊎ ((w : ℕ) × Source R a (folded (λ v x. cond (writes R x a) (R .value x) v) (cond b (R .value x) v) xs) w) →
         (folded (λ v x. cond (writes R x a) (R .value x) v) (cond b (R .value x) v) xs ≡ v) ⊎ ((w : ℕ) × Source R a (folded (λ v x. cond (writes R x a) (R .value x) v) (cond b (R .value x) v) xs) w)
     go true is (inl e) = inr (x, record { known = k .0; to-it = is; value = sym e })
@@ -42,11 +40,6 @@ source R a v (x ∷ xs) k = go (writes R x a) refl (source R a (cond (writes R x
 all-known : (R : Run) (xs : List ℕ) → Distinct R xs → All (Known R) xs
 all-known R [] d = tt
 all-known R (x ∷ xs) d = (d .0, all-known R xs (d .2))
-
-none-at : (p : Record → Bool) (rs : List Record) (k : ℕ) → any p rs ≡ false → k < length rs → p (getD rs k blank) ≡ false
-none-at p [] k e lt = absurd (omega arith)
-none-at p (r ∷ rs) zero e lt = or-parts (p r) (any p rs) e .0
-none-at p (r ∷ rs) (suc k) e lt = none-at p rs k (or-parts (p r) (any p rs) e .1) (omega arith)
 
 -- a load that reads no store of the run has a value that no legal order gives it
 pub orphan-none : (S : Setting) (rs : List Record) (l : ℕ) → 0 < l → l ≤ length rs → orphan rs l ≡ true → No-order (run-of S rs)
@@ -67,7 +60,7 @@ orphan-none S rs l some within e order h =
     let reads : reads-from x (at rs w) ≡ true =
     and-from (is-load (x .kind)) _ (p .0) (and-from (not (eqb (x .value) 0)) _ (q .0) (and-from (is-store (at rs w .kind)) _ (wrote .0) (and-from (eqb (at rs w .address) (x .address)) _ (wrote .1) (eq-eqb _ _ (s .1 .value ∙ sym read)))))
     in
-    both-ways _ (none-at (reads-from x) rs (w - 1) unwritten (omega (arith, s .1 .known .some, s .1 .known .within))) reads)
+    both-ways _ (none-at (reads-from x) rs (w - 1) blank unwritten (omega (arith, s .1 .known .some, s .1 .known .within))) reads)
     (source R (R .addr l) 0 (take i order) (all-take (Known R) i order (all-known R order (distinct R order (h .known) (h .once)))))
 
 -- the empty order is a legal order of no records

@@ -1,6 +1,7 @@
 pub mod Admission
 pub mod Clocks
 pub mod Kinds
+pub mod Lawful
 pub mod Legal
 pub mod Limits
 pub mod Lists

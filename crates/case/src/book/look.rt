@@ -1,5 +1,6 @@
 // Looking at a case.
 ghost use mathlib.Core.Path.{_≡_};
+ghost use Rattle.memory.specs.Lawful.{Lawful};
 ghost use Rattle.case.specs.Views.{view};
 use crate::book::Case;
 use crate::stages::Stage;
@@ -14,8 +15,10 @@ impl<M: Model, C: Clock> Case<M, C> {
         self.processors
     }
 
+    // The admitted records; they keep the rules of a run, whatever calls came before.
     pub fn records(&self) -> &[Record]
-        ensures { λ r. ⌜ now r ≡ view (now (self .entry)) .records ⌝ }
+        ensures value { λ r. ⌜ now r ≡ view (now (self .entry)) .records ⌝ }
+        ensures lawful { λ r. ⌜ Lawful (view (now (self .entry)) .processors) (now r) ⌝ }
     {
         self.records.as_slice()
     }
