@@ -16,8 +16,10 @@ use Rattle.memory.specs.declared.refusals.Refusal.the-variants as refuse
 use Rattle.memory.specs.declared.verdicts.Verdict.{Verdict}
 use Rattle.memory.specs.declared.verdicts.Verdict.the-variants.{Order, Opposed, Orphan, Exhausted}
 use Rattle.memory.specs.Admission.{opens, judgement}
+use Rattle.memory.specs.Legal.{Claims}
 use Rattle.memory.specs.Numbers.{verdict-number}
 use Rattle.memory.specs.Reading.{first-orphan}
+use Rattle.memory.specs.Runs.{Run}
 use Rattle.wire.specs.Bytes.{run-bytes, slip-bytes, paper-bytes, order-body, orphan-body}
 use Rattle.case.specs.declared.stages.Call.the-variants.{Admit, Seal}
 use Rattle.case.specs.declared.stages.Stage.{Stage}
@@ -79,6 +81,11 @@ seal-if None s = record { answer = Ok (sealed-verdict (s .records)); state = sea
 
 abbrev pub sealing : State → Outcome (Result (Option Verdict) Fault)
 sealing s = seal-if (permits (s .stage) Seal) s
+
+-- what the answer of sealing or loading claims of a run, with the empty order where it is an order; a refusal claims nothing
+abbrev pub Answer-claims : {E : Type 0} → Run → Result (Option Verdict) E → Type 0
+Answer-claims R (Ok v) = Claims R [] v
+Answer-claims R (Err e) = Unit {0}
 
 -- Writing a run, a slip and a paper, under the marks of a model and a clock.
 abbrev pub run-in : ℕ → ℕ → State → List ℕ

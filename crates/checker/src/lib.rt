@@ -5,7 +5,10 @@ ghost use Prim.Native.Nat.{_≤_};
 ghost use lib.ListN.{length, take, getD};
 ghost use Rattle.std.specs.Of.Vec.{vec-items};
 ghost use Rattle.std.specs.Vec.{made};
-ghost use Rattle.checker.specs.Output.{output, answer-to, or-none};
+ghost use Rattle.checker.specs.Output.{output, answer-to, or-none, Output-claims};
+ghost use Rattle.memory.specs.Runs.{setting};
+ghost use Rattle.std.specs.Results.{isOk};
+ghost use mathlib.Core.Bool.{true};
 ghost use Rattle.case.specs.Calls.{slip-in, paper-in};
 ghost use Rattle.case.specs.Views.{view};
 ghost use Rattle.wire.specs.Bytes.{notice-bytes};
@@ -56,14 +59,15 @@ fn write_refusal(fault: RunFault, room: &mut [u8]) -> usize
     n
 }
 
-// What is written for the bytes of a run, under a model and a clock.
+// What is written for the bytes of a run, under a model and a clock; what its verdict claims of the records read is true.
 pub fn check<M: Model + Drop, C: Clock + Drop>(
     heap: Global,
     model: M,
     clock: C,
     bytes: &[u8],
 ) -> Result<Vec<u8>, AllocError>
-    ensures { λ r. ⌜ made r (λ v. vec-items v ≡ output (M·Model .mark) (C·Clock .mark) (now (bytes .entry))) ⌝ }
+    ensures bytes { λ r. ⌜ made r (λ v. vec-items v ≡ output (M·Model .mark) (C·Clock .mark) (now (bytes .entry))) ⌝ }
+    ensures claims { λ r. ⌜ (isOk r ≡ true → Output-claims (setting (M·Model .orders model) (C·Clock .earlier clock) (M·Model .mark) (C·Clock .mark)) (now (bytes .entry))) ⌝ }
 {
     let mut case = Case::new(heap, model, clock)?;
     let mut room = [0; OUTPUT_ROOM];

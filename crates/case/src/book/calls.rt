@@ -1,14 +1,11 @@
 // Making, opening, admitting and sealing.
 ghost use mathlib.Core.Path.{_≡_};
-ghost use mathlib.Core.List.{[]};
-ghost use Rattle.std.specs.Results.{Cases};
 ghost use Rattle.std.specs.Vec.{made};
 ghost use Rattle.std.specs.Of.Vec.{vec-items};
 ghost use Rattle.memory.specs.Admission.{judgement};
-ghost use Rattle.memory.specs.Legal.{Claims};
 ghost use Rattle.memory.specs.Runs.{setting, run-of};
 ghost use Rattle.case.specs.State.{opened as begun, case-fault};
-ghost use Rattle.case.specs.Calls.{opening, admitting, admit-by, numbered-by, sealing, sealed-verdict, sealed};
+ghost use Rattle.case.specs.Calls.{opening, admitting, admit-by, numbered-by, sealing, sealed-verdict, sealed, Answer-claims};
 ghost use Rattle.case.specs.Views.{view};
 use crate::book::Case;
 use crate::stages::Call;
@@ -133,9 +130,7 @@ impl<M: Model, C: Clock> Case<M, C> {
     pub fn seal(&mut self) -> Result<Option<Verdict>, Fault>
         ensures answer { λ r. ⌜ r ≡ sealing (view (now (self .entry))) .answer ⌝ }
         ensures state { λ _. ⌜ view (now (self .exit)) ≡ sealing (view (now (self .entry))) .state ⌝ }
-        ensures claims { λ r. ⌜ Cases r
-            (λ v. Claims (run-of (setting (M·Model .orders (now (self .entry) .model)) (C·Clock .earlier (now (self .entry) .clock)) (M·Model .mark) (C·Clock .mark)) (vec-items (now (self .entry) .records))) [] v)
-            (λ _. Unit {0}) ⌝ }
+        ensures claims { λ r. ⌜ Answer-claims (run-of (setting (M·Model .orders (now (self .entry) .model)) (C·Clock .earlier (now (self .entry) .clock)) (M·Model .mark) (C·Clock .mark)) (view (now (self .entry)) .records)) r ⌝ }
         ensures model { λ _. ⌜ now (self .exit) .model ≡ now (self .entry) .model ⌝ }
         ensures clock { λ _. ⌜ now (self .exit) .clock ≡ now (self .entry) .clock ⌝ }
     {

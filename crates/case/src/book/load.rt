@@ -1,8 +1,10 @@
 // Loading a run from its bytes.
 ghost use mathlib.Core.Path.{_≡_};
+ghost use Rattle.memory.specs.Runs.{setting, run-of};
 ghost use Rattle.wire.specs.Fields.{record-field};
 ghost use Rattle.wire.specs.Seen.{shown, part-of, left};
 ghost use Rattle.wire.specs.declared.fields.Text.the-variants.{Run};
+ghost use Rattle.case.specs.Calls.{Answer-claims};
 ghost use Rattle.case.specs.Loading.{Turned, Gained, went-field, load-fields, ended-as, told-by, left-by, Walked, Not-before, head-refusal, begun-as, begun-state, Headed, loading, Kept};
 ghost use Rattle.case.specs.Views.{view};
 use crate::book::Case;
@@ -110,11 +112,13 @@ impl<M: Model, C: Clock> Case<M, C> {
     }
 
     // Opens the case by the head, admits each record, and seals after the end. At a refusal it stops: the records before it
-    // stay admitted and the case stays open, or it is as it was where the head failed. A run that loads is written as the same bytes.
+    // stay admitted and the case stays open, or it is as it was where the head failed. A run that loads is written as the same bytes,
+    // and what its verdict claims is true.
     pub fn load(&mut self, bytes: &[u8]) -> Result<Option<Verdict>, RunFault>
         ensures answer { λ r. ⌜ r ≡ loading (M·Model .mark) (C·Clock .mark) (view (now (self .entry))) (now (bytes .entry)) .answer ⌝ }
         ensures state { λ _. ⌜ view (now (self .exit)) ≡ loading (M·Model .mark) (C·Clock .mark) (view (now (self .entry))) (now (bytes .entry)) .state ⌝ }
         ensures kept { λ r. ⌜ Kept (M·Model .mark) (C·Clock .mark) (view (now (self .entry))) (view (now (self .exit))) (now (bytes .entry)) r ⌝ }
+        ensures claims { λ r. ⌜ Answer-claims (run-of (setting (M·Model .orders (now (self .entry) .model)) (C·Clock .earlier (now (self .entry) .clock)) (M·Model .mark) (C·Clock .mark)) (view (now (self .exit)) .records)) r ⌝ }
         ensures model { λ _. ⌜ now (self .exit) .model ≡ now (self .entry) .model ⌝ }
         ensures clock { λ _. ⌜ now (self .exit) .clock ≡ now (self .entry) .clock ⌝ }
     {

@@ -17,8 +17,8 @@ under input bs m b is mark test =
 
 pub returns-then-model-mark-eq-MARK : need.returns-then-model-mark-eq-MARK
 returns-then-model-mark-eq-MARK c =
-    subst (λ o. made (c .check .result) (λ v. vec-items v ≡ o)) (under (c .args .input .now) _ _ true (c .counted-bytes .ensures) (c .model-mark .ensures) (eq-eqb _ 3 (c .if-model-mark-eq-MARK .taken))) (c .check .ensures)
+    subst (λ o. made (c .check .result) (λ v. vec-items v ≡ o)) (under (c .args .input .now) _ _ true (c .counted-bytes .ensures) (c .model-mark .ensures) (eq-eqb _ 3 (c .if-model-mark-eq-MARK .taken))) (c .check .ensures .bytes)
 
 pub returns-else-model-mark-eq-MARK : need.returns-else-model-mark-eq-MARK
 returns-else-model-mark-eq-MARK c =
-    subst (λ o. made (c .check-else-model-mark-eq-MARK .result) (λ v. vec-items v ≡ o)) (under (c .args .input .now) _ _ false (c .counted-bytes .ensures) (c .model-mark .ensures) (ne-eqb _ 3 (c .if-model-mark-eq-MARK .left))) (c .check-else-model-mark-eq-MARK .ensures)
+    subst (λ o. made (c .check-else-model-mark-eq-MARK .result) (λ v. vec-items v ≡ o)) (under (c .args .input .now) _ _ false (c .counted-bytes .ensures) (c .model-mark .ensures) (ne-eqb _ 3 (c .if-model-mark-eq-MARK .left))) (c .check-else-model-mark-eq-MARK .ensures .bytes)

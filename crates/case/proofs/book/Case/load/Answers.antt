@@ -4,16 +4,18 @@ use Prim.Native.Nat.{ℕ, _≤_, _<_}
 use lib.ListN.{length, drop}
 use Rattle.std.specs.declared.result.Result.the-variants.{Ok, Err}
 use Rattle.std.proofs.shelf.Results.{err-from-errBy}
-use Rattle.wire.specs.declared.faults.ByteFault.{ByteFault}
+use Rattle.memory.specs.Legal.{Claims}
+use Rattle.memory.specs.Runs.{setting, run-of}
 use Rattle.wire.specs.declared.faults.RunFault.{RunFault}
 use Rattle.wire.specs.declared.faults.RunFault.the-variants.{Bytes}
 use Rattle.wire.specs.Bytes.{field, run-bytes}
 use Rattle.wire.specs.Fields.{fault-at}
 use Rattle.case.specs.State.{State}
-use Rattle.case.specs.Calls.{sealed}
+use Rattle.case.specs.Calls.{sealed, Answer-claims}
 use Rattle.case.specs.Loading.{ended-as, place-of, Headed, Kept}
 use Rattle.case.specs.Views.{view}
 use Rattle.case.proofs.Loads.{stops, follows, loads, fields-at, walked-at}
+use Rattle.case.proofs.Sealed.{sealed-claims}
 use Rattle.case.proofs.book.Case.load.Needs as need
 
 pub returns-in-Break-load-fields : need.returns-in-Break-load-fields
@@ -41,6 +43,7 @@ returns-in-Break-load-fields g c =
       answer = is ∙ sym (ap (λ o. o .answer) (all .0));
       state = sym (ap (λ o. o .state) (all .0));
       kept = subst (Kept m k s u bs) (sym is) (all .1);
+      claims = subst (Answer-claims _) (sym is) tt;
       model = told .model ∙ passed .model;
       clock = told .clock ∙ passed .clock;
     }
@@ -71,6 +74,7 @@ returns-in-Break-finish g c =
       answer = is ∙ sym (ap (λ o. o .answer) (all .0));
       state = sym (ap (λ o. o .state) (all .0));
       kept = subst (Kept m k s u bs) (sym is) (all .1);
+      claims = subst (Answer-claims _) (sym is) tt;
       model = told .model ∙ passed .model;
       clock = told .clock ∙ passed .clock;
     }
@@ -95,9 +99,12 @@ returns g c =
     let end : to ≡ length bs = c .in-Continue-finish .ensures tt ∙ ap length (ap (λ b. b .now) (told .bytes) ∙ same) in
     let all = loads m k s bs t (reader .at) head u to fields walked end in
     let closed = c .close .ensures in
+    let self = c .args .self .now in
+    let S = setting (g .M·Model .orders (self .model)) (g .C·Clock .earlier (self .clock)) (g .M·Model .mark) (g .C·Clock .mark) in
     record {
       answer = ap Ok (closed .answer) ∙ sym (ap (λ o. o .answer) (all .0));
       state = closed .state ∙ sym (ap (λ o. o .state) (all .0));
+      claims = subst (λ (x : State). Claims (run-of S (x .records)) [] (c .close .result)) (sym (closed .state)) (subst (Claims (run-of S (u .records)) []) (sym (closed .answer)) (sealed-claims S (u .records)));
       kept = ap (λ (x : State). run-bytes (x .processors) m k (x .records)) (closed .state) ∙ all .1;
       model = closed .model ∙ told .model ∙ passed .model;
       clock = closed .clock ∙ told .clock ∙ passed .clock;
