@@ -102,6 +102,9 @@ later (p ∷ ps) = ps
 abbrev pub entry-of : ℕ → List ℕ → Result Entry ByteFault
 entry-of at c = cond (eqb (length c) 30) (Ok (entry-in c)) (Err (fault-at at))
 
--- what a run's head at a place says
+-- what the three bytes of a run's head say, and what a head at a place says
+abbrev pub run-head-in : List ℕ → RunHead
+run-head-in c = record { processors = getD c 0 0; model = getD c 1 0; clock = getD c 2 0 }
+
 abbrev pub run-head-of : ℕ → List ℕ → Result RunHead ByteFault
-run-head-of at c = cond (eqb (length c) 3) (Ok (record { processors = getD c 0 0; model = getD c 1 0; clock = getD c 2 0 })) (Err (fault-at at))
+run-head-of at c = cond (eqb (length c) 3) (Ok (run-head-in c)) (Err (fault-at at))

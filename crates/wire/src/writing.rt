@@ -2,6 +2,7 @@
 ghost use mathlib.Core.Path.{_≡_};
 ghost use mathlib.Core.List.{[], _∷_};
 ghost use Prim.Native.Nat.{_+_, _*_, _≤_};
+ghost use lib.Dec.{leb};
 ghost use lib.ListN.{length};
 ghost use Rattle.memory.specs.Admission.{logged};
 ghost use Rattle.memory.specs.Numbers.{verdict-number, refusal-number, layer-number};
@@ -76,11 +77,18 @@ fn put_records(out: &mut [u8], start: usize, records: &[Record]) -> usize
     at
 }
 
+// So many bytes hold a run of so many records.
+fn run_fits(room: usize, records: usize) -> bool
+    ensures { λ r. ⌜ r ≡ leb (9 + 33 * records) room ⌝ }
+{
+    room >= 9 && records <= (room - 9) / 33
+}
+
 // A head, the records, an end.
 pub fn write_run(out: &mut [u8], head: RunHead, records: &[Record]) -> Result<usize, TooShort>
     ensures { λ r. ⌜ Written (run-bytes (head .processors) (head .model) (head .clock) (now (records .entry))) (now (out .entry)) (now (out .exit)) r ⌝ }
 {
-    if out.len() < 9 || records.len() > (out.len() - 9) / 33 {
+    if !run_fits(out.len(), records.len()) {
         return Err(TooShort);
     }
     let first = put_field(

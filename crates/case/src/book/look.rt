@@ -15,12 +15,18 @@ impl<M: Model, C: Clock> Case<M, C> {
         self.processors
     }
 
+    fn admitted(&self) -> &[Record]
+        ensures { λ r. ⌜ now r ≡ view (now (self .entry)) .records ⌝ }
+    {
+        self.records.as_slice()
+    }
+
     // The admitted records; they keep the rules of a run, whatever calls came before.
     pub fn records(&self) -> &[Record]
         ensures value { λ r. ⌜ now r ≡ view (now (self .entry)) .records ⌝ }
         ensures lawful { λ r. ⌜ Lawful (view (now (self .entry)) .processors) (now r) ⌝ }
     {
-        self.records.as_slice()
+        self.admitted()
     }
 
     pub fn stage(&self) -> Stage

@@ -20,10 +20,8 @@ use wire::writing::Paper;
 use wire::writing::PaperHead;
 
 impl<M: Model, C: Clock> Case<M, C> {
-    // The run, at any stage. It loads, in any case of this model and clock, as the same processors and records.
-    pub fn write_run(&self, out: &mut [u8]) -> Result<usize, Fault>
-        ensures wrote { λ r. ⌜ Wrote (view (now (self .entry))) (run-in (M·Model .mark) (C·Clock .mark) (view (now (self .entry)))) (now (out .entry)) (now (out .exit)) r ⌝ }
-        ensures reloads { λ _. ⌜ ((before : State) → Reloads (M·Model .mark) (C·Clock .mark) before (view (now (self .entry))) (run-in (M·Model .mark) (C·Clock .mark) (view (now (self .entry))))) ⌝ }
+    fn put_run(&self, out: &mut [u8]) -> Result<usize, Fault>
+        ensures { λ r. ⌜ Wrote (view (now (self .entry))) (run-in (M·Model .mark) (C·Clock .mark) (view (now (self .entry)))) (now (out .entry)) (now (out .exit)) r ⌝ }
     {
         let head = RunHead {
             processors: self.processors,
@@ -34,6 +32,14 @@ impl<M: Model, C: Clock> Case<M, C> {
             Ok(n) => Ok(n),
             Err(_) => Err(self.fault(Refusal::Short)),
         }
+    }
+
+    // The run, at any stage. It loads, in any case of this model and clock, as the same processors and records.
+    pub fn write_run(&self, out: &mut [u8]) -> Result<usize, Fault>
+        ensures wrote { λ r. ⌜ Wrote (view (now (self .entry))) (run-in (M·Model .mark) (C·Clock .mark) (view (now (self .entry)))) (now (out .entry)) (now (out .exit)) r ⌝ }
+        ensures reloads { λ _. ⌜ ((before : State) → Reloads (M·Model .mark) (C·Clock .mark) before (view (now (self .entry))) (run-in (M·Model .mark) (C·Clock .mark) (view (now (self .entry))))) ⌝ }
+    {
+        self.put_run(out)
     }
 
     // The verdict and the total of steps, at any stage.

@@ -7,5 +7,5 @@ use Rattle.case.proofs.book.Case.records.Needs as need
 pub returns : need.returns
 returns g c =
     let self = c .args .self .now in
-    let is = c .as-slice .ensures .value in
+    let is = c .admitted .ensures in
     record { value = is; lawful = subst (Lawful (self .processors)) (sym is) (lawful-all (self .processors) (vec-items (self .records)) (self .lawful)) }

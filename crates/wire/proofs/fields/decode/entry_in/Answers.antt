@@ -5,11 +5,11 @@ use native.Mathlib.Omega.{arith}
 use borrow.Author.Needs.{needs}
 use lib.ListN.{length}
 use Rattle.wire.proofs.Digits.{part-back, entry-whole}
-use Rattle.wire.proofs.fields.Part.entry.Needs as need
+use Rattle.wire.proofs.fields.decode.entry_in.Needs as need
 
 pub returns : need.returns
 returns c =
-    let cs : List ℕ = c .args .self .content .now in
+    let cs : List ℕ = c .args .c .now in
     let long : length cs ≡ 30 = omega arith in
     record {
       value = search needs;
