@@ -9,6 +9,7 @@ use Rattle.std.specs.declared.option.Option.the-variants.{Some, None}
 use Rattle.std.specs.declared.result.Result.{Result}
 use Rattle.std.specs.declared.result.Result.the-variants.{Ok, Err}
 use Rattle.memory.specs.declared.verdicts.Verdict.{Verdict}
+use Rattle.memory.specs.Limits.{input-limit}
 use Rattle.memory.specs.Runs.{Setting, run-of}
 use Rattle.wire.specs.declared.faults.RunFault.{RunFault}
 use Rattle.wire.specs.Bytes.{notice-bytes}
@@ -36,4 +37,4 @@ Output-claims S bs = let o = loading (S .model-mark) (S .clock-mark) (opened 1) 
 
 -- the program loads under the clock Global, mark 1, and the model that the head marks in its second byte, Godson, mark 3, or else SC, mark 1, to which any other mark is foreign; only the first 4,096 bytes count
 abbrev pub answer-to : List ℕ → List ℕ
-answer-to input = let bs = take 4096 input in output (cond (eqb (getD bs 4 0) 3) 3 1) 1 bs
+answer-to input = let bs = take input-limit input in output (cond (eqb (getD bs 4 0) 3) 3 1) 1 bs

@@ -6,6 +6,7 @@ ghost use lib.ListN.{length, take, getD};
 ghost use Rattle.std.specs.Of.Vec.{vec-items};
 ghost use Rattle.std.specs.Vec.{made};
 ghost use Rattle.checker.specs.Output.{output, answer-to, or-none, Output-claims};
+ghost use Rattle.memory.specs.Limits.{input-limit};
 ghost use Rattle.memory.specs.Runs.{setting};
 ghost use Rattle.std.specs.Results.{isOk};
 ghost use mathlib.Core.Bool.{true};
@@ -17,6 +18,7 @@ use case::book::Case;
 use memory::clocks::Clock;
 use memory::clocks::GlobalClock;
 use memory::clocks::GlobalTime;
+use memory::limits::INPUT_LIMIT;
 use memory::models::Godson;
 use memory::models::GodsonModel;
 use memory::models::Model;
@@ -26,9 +28,6 @@ use std::alloc::AllocError;
 use std::alloc::Global;
 use wire::faults::RunFault;
 use wire::writing;
-
-// Only so many bytes of the input count.
-pub const INPUT_LIMIT: usize = 4096;
 
 // Room for a slip and a paper, or for a notice.
 const OUTPUT_ROOM: usize = 26;
@@ -80,7 +79,7 @@ pub fn check<M: Model + Drop, C: Clock + Drop>(
 
 // The bytes of the input that count.
 fn counted(input: &[u8]) -> &[u8]
-    ensures { λ r. ⌜ now r ≡ take 4096 (now (input .entry)) ⌝ }
+    ensures { λ r. ⌜ now r ≡ take input-limit (now (input .entry)) ⌝ }
 {
     if input.len() <= INPUT_LIMIT {
         input

@@ -4,19 +4,18 @@ ghost use mathlib.Core.Bool.{true};
 ghost use Prim.Native.Nat.{_<_};
 ghost use lib.ListN.{length, getD};
 
-mod inputs;
 mod papers;
 mod reports;
 mod words;
 
-use crate::inputs::LIMIT;
-use crate::inputs::ROOM;
-use crate::inputs::Request;
-use crate::inputs::asked;
-use crate::inputs::read_input;
 use crate::reports::Outcome;
 use crate::reports::tell;
 use crate::reports::tell_input;
+use intake::ROOM;
+use intake::Request;
+use intake::asked;
+use intake::read_input;
+use memory::limits::INPUT_LIMIT;
 use memory::models::Godson;
 use memory::models::GodsonModel;
 use memory::models::Model;
@@ -50,8 +49,8 @@ fn marks_godson(bytes: &[u8]) -> bool
 fn explain(rt: &LibcRuntime) -> Result<Outcome, AnyError> {
     let mut buffer = [0u8; ROOM];
     let came = read_input(rt, &mut buffer)?;
-    let bytes = &buffer[0..came.min(LIMIT)];
-    tell_input(rt, bytes, came > LIMIT)?;
+    let bytes = &buffer[0..came.min(INPUT_LIMIT)];
+    tell_input(rt, bytes, came > INPUT_LIMIT)?;
     if marks_godson(bytes) {
         tell(rt, Godson, bytes)
     } else {
@@ -61,7 +60,7 @@ fn explain(rt: &LibcRuntime) -> Result<Outcome, AnyError> {
 
 fn run(rt: &LibcRuntime) -> Result<Outcome, AnyError> {
     match asked(rt)? {
-        Request::Explain => explain(rt),
+        Request::Run => explain(rt),
         Request::Help => {
             rt.println(USAGE)?;
             Ok(Outcome::Answered)

@@ -12,3 +12,7 @@ most-processors = 16
 -- 2^62: every reading of a counter is below it
 abbrev pub reading-limit : ℕ
 reading-limit = 4611686018427387904
+
+-- so many bytes of a program's input count
+abbrev pub input-limit : ℕ
+input-limit = 4096

@@ -1,36 +1,18 @@
 // The checker as a program: a run's bytes on standard input, slip and paper or a notice on standard output.
-ghost use Prim.Native.Nat.{_≤_};
-ghost use Rattle.std.specs.Vec.{made};
-use checker::INPUT_LIMIT;
 use checker::answer;
-use std::env;
+use intake::ROOM;
+use intake::Request;
+use intake::asked;
+use intake::read_input;
 use std::error::AnyError;
-use std::io;
-use std::io::Read;
 use std::io::Write;
 use wire::tags;
 
-// How many bytes came; at most `INPUT_LIMIT`, and what lies past them does not count.
-fn read_input(rt: &LibcRuntime, buffer: &mut [u8; INPUT_LIMIT]) -> io::Result<usize>
-    ensures { λ r. ⌜ made r (λ n. n ≤ 4096) ⌝ }
-{
-    let mut input = rt.stdin();
-    let mut n = 0usize;
-    while n < INPUT_LIMIT {
-        let got = input.read(&mut buffer[n..])?;
-        if got == 0 {
-            break;
-        }
-        n += got;
-    }
-    Ok(n)
-}
-
 // Writes the answer; a notice is an error, so that the exit status tells of it.
 fn run(rt: &LibcRuntime) -> Result<(), AnyError> {
-    let mut buffer = [0; INPUT_LIMIT];
-    let n = read_input(rt, &mut buffer)?;
-    let output = answer(rt.alloc(), &buffer[0..n])?;
+    let mut buffer = [0; ROOM];
+    let came = read_input(rt, &mut buffer)?;
+    let output = answer(rt.alloc(), &buffer[0..came])?;
     rt.stdout().write_all(output.as_slice())?;
     if output.first().copied() == Some(tags::NOTICE) {
         return Err("the run is refused, and the notice says why".into());
@@ -60,12 +42,10 @@ fn help(rt: &LibcRuntime) -> Result<(), AnyError> {
 }
 
 fn choose(rt: &LibcRuntime) -> Result<(), AnyError> {
-    let mut args = env::args(rt)?;
-    let _ = args.next();
-    match args.next() {
-        None => run(rt),
-        Some(word) if word.as_str() == "--help" => help(rt),
-        Some(_) => Err("takes no argument but --help".into()),
+    match asked(rt)? {
+        Request::Run => run(rt),
+        Request::Help => help(rt),
+        Request::Unknown => Err("takes no argument but --help".into()),
     }
 }
 

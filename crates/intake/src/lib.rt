@@ -1,20 +1,18 @@
-// What the program is asked for, and the bytes that it reads.
+// What both programs take: their arguments, and the bytes of a run on standard input.
 ghost use Prim.Native.Nat.{_≤_};
 ghost use Rattle.std.specs.Vec.{made};
+use memory::limits::INPUT_LIMIT;
 use std::env;
 use std::error::AnyError;
 use std::io;
 use std::io::Read;
 
-// So many bytes count.
-pub const LIMIT: usize = 4096;
-
 // One byte more than count, to see whether there are more.
-pub const ROOM: usize = 4097;
+pub const ROOM: usize = INPUT_LIMIT + 1;
 
 #[derive(Clone, Copy)]
 pub enum Request {
-    Explain,
+    Run,
     Help,
     Unknown,
 }
@@ -35,7 +33,7 @@ pub fn asked(rt: &LibcRuntime) -> Result<Request, AnyError> {
     };
     let _ = words.next();
     let Some(word) = words.next() else {
-        return Ok(Request::Explain);
+        return Ok(Request::Run);
     };
     if word.as_str() == "--help" && words.next().is_none() {
         return Ok(Request::Help);

@@ -1,8 +1,8 @@
 use Prim.Native.Nat.{_-_, _≤_}
-use Rattle.zielwart.proofs.read_input.Given as given
+use Rattle.intake.proofs.fill.Given as given
 
 abbrev pub Inv-loop-n : given.InvT-loop-n
-Inv-loop-n l = l .n ≤ 4096
+Inv-loop-n l = l .n ≤ 4097
 
 abbrev pub μ-loop-n : given.MeasureT-loop-n
-μ-loop-n l = 4096 - l .n
+μ-loop-n l = 4097 - l .n
