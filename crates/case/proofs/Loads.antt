@@ -22,7 +22,8 @@ use Rattle.wire.specs.Seen.{left}
 use Rattle.wire.proofs.Over.{records-long}
 use Rattle.case.specs.State.{State}
 use Rattle.case.specs.Calls.{Outcome, sealed, sealed-verdict}
-use Rattle.case.specs.Loading.{Loaded, load-fields, load-end, go-on, loading, ended-as, place-of, Walked, left-by, told-by, Not-before, Headed, Front, Kept}
+use Rattle.case.specs.Loading.{Loaded, load-fields, load-end, go-on, loading, ended-as, place-of, Front, Kept}
+use Rattle.case.specs.Parts.{Walked, left-by, told-by, Not-before, Headed}
 
 module _ (model clock : ℕ) (s : State) (bs : List ℕ) (t : State) (at : ℕ) (head : Headed model clock s bs t at (Ok tt)) (u : State) where
   -- all bytes: the head, the records, and what is left

@@ -16,7 +16,8 @@ use Rattle.wire.specs.Fields.{Piece, pieces, Shown, fault-at, tag-of, next-fiel
 use Rattle.wire.specs.declared.fields.Reader.{Reader}
 use Rattle.wire.specs.Seen.{left, Passed}
 use Rattle.case.specs.State.{State, with-record}
-use Rattle.case.specs.Loading.{Loaded, stopped, ended-as, load-sort, load-field, load-fields, place-of, onward, ended, fell, Turned, Gained, Walked, told-by, left-by, Not-before}
+use Rattle.case.specs.Loading.{Loaded, stopped, ended-as, load-sort, load-field, load-fields, place-of}
+use Rattle.case.specs.Parts.{onward, ended, fell, Turned, Gained, Walked, told-by, left-by, Not-before}
 
 -- a field more of a list of fields
 fields-step : (s : State) (at : ℕ) (ps : List Piece) → load-fields s at ps ≡ load-field (next-field Run at ps) s (λ t next. load-fields t next (later ps))

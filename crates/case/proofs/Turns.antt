@@ -15,7 +15,8 @@ use Rattle.wire.specs.Bytes.{field, entry-bytes}
 use Rattle.wire.specs.Fields.{record-field as record-sort, Shown, entry-of}
 use Rattle.case.specs.State.{State, with-record}
 use Rattle.case.specs.Calls.{numbered-by, admit-by}
-use Rattle.case.specs.Loading.{load-judged, load-entry, Went, onward, fell, Turned, Gained}
+use Rattle.case.specs.Loading.{load-judged, load-entry}
+use Rattle.case.specs.Parts.{Went, onward, fell, Turned, Gained}
 
 module _ (s t : State) (at : ℕ) (c : List ℕ) (e : Entry) (says : Ok e ≡ entry-of at c) (back : entry-bytes e ≡ c) where
   abbrev the-field : Shown

@@ -1,6 +1,6 @@
 -- A case of the code, as a state.
 use Rattle.std.specs.Of.Vec.{vec-items}
-use Rattle.case.specs.declared.book.Case.{Case}
+use Rattle.case.specs.declared.cases.Case.{Case}
 use Rattle.case.specs.State.{State}
 
 module _ {M C : Type 0} where

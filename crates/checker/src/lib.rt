@@ -14,7 +14,7 @@ ghost use Rattle.case.specs.Calls.{slip-in, paper-in};
 ghost use Rattle.case.specs.Views.{view};
 ghost use Rattle.wire.specs.Bytes.{notice-bytes};
 ghost use Rattle.wire.specs.Faults.{run-fault};
-use case::book::Case;
+use case::cases::Case;
 use memory::clocks::Clock;
 use memory::clocks::GlobalClock;
 use memory::clocks::GlobalTime;

@@ -11,7 +11,7 @@ use crate::words::record_word;
 use crate::words::refusal_meaning;
 use crate::words::refusal_word;
 use crate::words::verdict_word;
-use case::book::Case;
+use case::cases::Case;
 use memory::clocks::Clock;
 use memory::models::Model;
 use memory::records::Record;

@@ -15,7 +15,7 @@ use crate::words::refusal_meaning;
 use crate::words::refusal_word;
 use crate::words::verdict_meaning;
 use crate::words::verdict_word;
-use case::book::Case;
+use case::cases::Case;
 use memory::clocks::Clock;
 use memory::clocks::GlobalClock;
 use memory::clocks::GlobalTime;

@@ -1,5 +1,5 @@
 // What the tests share.
-use case::book::Case;
+use case::cases::Case;
 use memory::clocks::GlobalClock;
 use memory::clocks::GlobalTime;
 use memory::models::Sc;

@@ -9,7 +9,7 @@ use crate::tools::loaded;
 use crate::tools::opened;
 use crate::tools::sealed;
 use crate::tools::written;
-use case::book::Case;
+use case::cases::Case;
 use memory::clocks::GlobalClock;
 use memory::clocks::GlobalTime;
 use memory::clocks::NoClock;

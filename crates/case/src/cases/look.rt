@@ -2,7 +2,7 @@
 ghost use mathlib.Core.Path.{_≡_};
 ghost use Rattle.memory.specs.Lawful.{Lawful};
 ghost use Rattle.case.specs.Views.{view};
-use crate::book::Case;
+use crate::cases::Case;
 use crate::stages::Stage;
 use memory::clocks::Clock;
 use memory::models::Model;

@@ -3,7 +3,7 @@ use Prim.Native.Nat.{_-_}
 use lib.ListN.{length}
 use Rattle.case.specs.Views.{view}
 use Rattle.case.proofs.Progress.{Progress}
-use Rattle.case.proofs.book.Case.load_fields.Given as given
+use Rattle.case.proofs.cases.Case.load_fields.Given as given
 
 abbrev pub Inv-loop-field : given.InvT-loop-field
 Inv-loop-field g l = (l .reader .bytes ≡ l .entry .reader .bytes) × (l .reader .text ≡ l .entry .reader .text)

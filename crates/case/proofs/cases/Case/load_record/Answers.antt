@@ -1,6 +1,6 @@
 use Rattle.case.specs.Views.{view}
 use Rattle.case.proofs.Turns.{admitted, unlawful}
-use Rattle.case.proofs.book.Case.load_record.Needs as need
+use Rattle.case.proofs.cases.Case.load_record.Needs as need
 
 pub returns-in-Ok : need.returns-in-Ok
 returns-in-Ok g c =

@@ -11,7 +11,7 @@ use Rattle.memory.specs.Admission.{judgement}
 use Rattle.case.specs.State.{State, case-fault}
 use Rattle.case.specs.Calls.{numbered-by, admit-by, admit-if, admitting, refused}
 use Rattle.case.specs.Views.{view}
-use Rattle.case.proofs.book.Case.admit.Needs as need
+use Rattle.case.proofs.cases.Case.admit.Needs as need
 
 unlawful : (j : Result Record Refusal) (s : State) (x : Refusal) → Err x ≡ numbered-by j s → j ≡ Err x
 unlawful (Ok r) s x e = let z : _≡_ {A = ℕ} 0 1 = cc in absurd (omega arith)

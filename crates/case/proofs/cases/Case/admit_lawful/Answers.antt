@@ -9,7 +9,7 @@ use Rattle.std.specs.declared.result.Result.the-variants.{Ok}
 use Rattle.memory.specs.declared.records.Record.{Record}
 use Rattle.memory.specs.Admission.{judgement, admits, sized}
 use Rattle.memory.proofs.Admitted.{admits-more, sized-more}
-use Rattle.case.proofs.book.Case.admit_lawful.Needs as need
+use Rattle.case.proofs.cases.Case.admit_lawful.Needs as need
 
 pub ghost-self : need.ghost-self
 ghost-self g c =

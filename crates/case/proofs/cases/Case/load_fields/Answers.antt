@@ -11,10 +11,11 @@ use Rattle.wire.specs.declared.fields.Text.the-variants.{Run}
 use Rattle.wire.specs.Fields.{Shown, next-field, pieces}
 use Rattle.wire.specs.Seen.{shown, left}
 use Rattle.case.specs.State.{State}
-use Rattle.case.specs.Loading.{ended-as, told-by, left-by, Walked, Not-before, Turned, Gained, went-field, place-of}
+use Rattle.case.specs.Loading.{ended-as, place-of}
+use Rattle.case.specs.Parts.{told-by, left-by, Walked, Not-before, Turned, Gained, went-field}
 use Rattle.case.specs.Views.{view}
 use Rattle.case.proofs.Progress.{Progress, Took, took, fell-reading, progress-more, at-end, at-fault}
-use Rattle.case.proofs.book.Case.load_fields.Needs as need
+use Rattle.case.proofs.cases.Case.load_fields.Needs as need
 
 pub returns-in-Break-field : need.returns-in-Break-field
 returns-in-Break-field g c =

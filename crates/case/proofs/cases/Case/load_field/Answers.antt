@@ -1,8 +1,8 @@
 use mathlib.Core.Path.{sym, subst}
 use Rattle.wire.specs.Seen.{shown}
-use Rattle.case.specs.Loading.{Turned, Gained, went-field}
+use Rattle.case.specs.Parts.{Turned, Gained, went-field}
 use Rattle.case.specs.Views.{view}
-use Rattle.case.proofs.book.Case.load_field.Needs as need
+use Rattle.case.proofs.cases.Case.load_field.Needs as need
 
 pub returns-in-Record : need.returns-in-Record
 returns-in-Record g c =

@@ -8,7 +8,7 @@ ghost use Rattle.case.specs.Calls.{run-in, slip-in, paper-in, Wrote, Wrote-som
 ghost use Rattle.case.specs.Loading.{Reloads};
 ghost use Rattle.case.specs.State.{State};
 ghost use Rattle.case.specs.Views.{view};
-use crate::book::Case;
+use crate::cases::Case;
 use memory::clocks::Clock;
 use memory::models::Model;
 use memory::refusals::Fault;

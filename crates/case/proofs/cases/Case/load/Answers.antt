@@ -12,11 +12,12 @@ use Rattle.wire.specs.Bytes.{field, run-bytes}
 use Rattle.wire.specs.Fields.{fault-at}
 use Rattle.case.specs.State.{State}
 use Rattle.case.specs.Calls.{sealed, Answer-claims}
-use Rattle.case.specs.Loading.{ended-as, place-of, Headed, Kept}
+use Rattle.case.specs.Loading.{ended-as, place-of, Kept}
+use Rattle.case.specs.Parts.{Headed}
 use Rattle.case.specs.Views.{view}
 use Rattle.case.proofs.Loads.{stops, follows, loads, fields-at, walked-at}
 use Rattle.case.proofs.Sealed.{sealed-claims}
-use Rattle.case.proofs.book.Case.load.Needs as need
+use Rattle.case.proofs.cases.Case.load.Needs as need
 
 pub returns-in-Break-load-fields : need.returns-in-Break-load-fields
 returns-in-Break-load-fields g c =

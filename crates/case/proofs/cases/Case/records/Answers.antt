@@ -2,7 +2,7 @@ use mathlib.Core.Path.{sym, subst}
 use Rattle.std.specs.Of.Vec.{vec-items}
 use Rattle.memory.specs.Lawful.{Lawful}
 use Rattle.memory.proofs.Lawful.{lawful-all}
-use Rattle.case.proofs.book.Case.records.Needs as need
+use Rattle.case.proofs.cases.Case.records.Needs as need
 
 pub returns : need.returns
 returns g c =

@@ -5,7 +5,7 @@ use Rattle.std.specs.Of.Vec.{vec-items}
 use Rattle.memory.specs.Legal.{Claims}
 use Rattle.memory.specs.Runs.{setting, run-of}
 use Rattle.case.proofs.Sealed.{sealed-claims}
-use Rattle.case.proofs.book.Case.seal.Needs as need
+use Rattle.case.proofs.cases.Case.seal.Needs as need
 
 pub returns : need.returns
 returns g c =

@@ -7,7 +7,7 @@ ghost use Rattle.memory.specs.Runs.{setting, run-of};
 ghost use Rattle.case.specs.State.{opened as begun, case-fault};
 ghost use Rattle.case.specs.Calls.{opening, admitting, admit-by, numbered-by, sealing, sealed-verdict, sealed, Answer-claims};
 ghost use Rattle.case.specs.Views.{view};
-use crate::book::Case;
+use crate::cases::Case;
 use crate::stages::Call;
 use crate::stages::Stage;
 use memory::admission::judge;
