@@ -15,6 +15,7 @@ use Rattle.wire.specs.Bytes.{field, all-of, record-field}
 use Rattle.wire.specs.Fields.{Piece, pieces, Shown, fault-at, tag-of, next-field, later}
 use Rattle.wire.specs.declared.fields.Reader.{Reader}
 use Rattle.wire.specs.Seen.{left, Passed}
+use Rattle.wire.proofs.Over.{all-of-end}
 use Rattle.case.specs.State.{State, with-record}
 use Rattle.case.specs.Loading.{Loaded, stopped, ended-as, load-sort, load-field, load-fields, place-of}
 use Rattle.case.specs.Parts.{onward, ended, fell, Turned, Gained, Walked, told-by, left-by, Not-before}
@@ -24,10 +25,6 @@ fields-step : (s : State) (at : ℕ) (ps : List Piece) → load-fields s at ps �
 unfolding load-fields
 fields-step s at [] = refl
 fields-step s at (p ∷ ps) = refl
-
-all-of-end : (rs : List Record) (r : Record) → all-of record-field (rs ++ r ∷ []) ≡ all-of record-field rs ++ record-field r
-all-of-end [] r = append-nil (record-field r)
-all-of-end (x ∷ rs) r = ap (λ l. record-field x ++ l) (all-of-end rs r) ∙ sym (append-assoc (record-field x) (all-of record-field rs) (record-field r))
 
 -- loading from a place on has come to another place
 pub record Progress (bs : List ℕ) (from : ℕ) (s : State) (at : ℕ) (t : State) : Type 0 where

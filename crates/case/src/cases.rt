@@ -5,6 +5,7 @@ ghost use mathlib.Core.List.{[]};
 ghost use Prim.Native.Nat.{_≤_};
 ghost use Rattle.std.specs.Of.Vec.{vec-items, vec-len, vec-cap};
 ghost use Rattle.memory.specs.Admission.{opens, admits, sized};
+ghost use Rattle.memory.specs.Limits.{most-records};
 use crate::stages::Stage;
 use memory::clocks::Clock;
 use memory::models::Model;
@@ -24,8 +25,8 @@ pub struct Case<M: Model, C: Clock> {
     records: Vec<Record>,
     stage: Stage,
     steps: u64,
-    ghost room: { 64 ≤ vec-cap records },
-    ghost few: { vec-len records ≤ 64 },
+    ghost room: { most-records ≤ vec-cap records },
+    ghost few: { vec-len records ≤ most-records },
     ghost opened: { opens processors ≡ true },
     ghost lawful: { admits processors [] (vec-items records) ≡ true },
     ghost sized: { sized (vec-items records) ≡ true },

@@ -1,5 +1,5 @@
 // Which records a case takes, and which processors.
-use crate::tools::Book;
+use crate::tools::ScCase;
 use crate::tools::Row;
 use crate::tools::admit_rows;
 use crate::tools::admitted;
@@ -77,7 +77,7 @@ const SEVERAL: [Row; 13] = [
 
 #[test]
 fn the_first_broken_rule_is_told_and_its_border_passes(rt: LibcRuntime) -> Result<(), Fail> {
-    let mut case = Book::new(rt.alloc(), Sc, GlobalClock)?;
+    let mut case = ScCase::new(rt.alloc(), Sc, GlobalClock)?;
     admit_rows(&mut case, &SEVERAL)?;
     check_eq(case.records().len(), 1)?;
     check_eq(opened(case.open(2)), (0, 0, 0))?;
@@ -85,7 +85,7 @@ fn the_first_broken_rule_is_told_and_its_border_passes(rt: LibcRuntime) -> Resul
     check_eq(case.records().len(), 9)
 }
 
-fn fill(case: &mut Book) -> Result<(), Fail> {
+fn fill(case: &mut ScCase) -> Result<(), Fail> {
     for i in 1..65 {
         check_eq(admitted(case.admit(entry(0, 2, 16, i))), (0, 0, i as usize))?;
     }
@@ -95,7 +95,7 @@ fn fill(case: &mut Book) -> Result<(), Fail> {
 // The run of the full case, with one more record in its bytes.
 #[test]
 fn sixty_four_records_are_admitted_and_no_more(rt: LibcRuntime) -> Result<(), Fail> {
-    let mut case = Book::new(rt.alloc(), Sc, GlobalClock)?;
+    let mut case = ScCase::new(rt.alloc(), Sc, GlobalClock)?;
     fill(&mut case)?;
     check_eq(admitted(case.admit(entry(0, 2, 16, 65))), (6, 2, 65))?;
     // full comes before all that is wrong with the record
@@ -115,7 +115,7 @@ fn sixty_four_records_are_admitted_and_no_more(rt: LibcRuntime) -> Result<(), Fa
 
 #[test]
 fn one_to_sixteen_processors_open_a_case(rt: LibcRuntime) -> Result<(), Fail> {
-    let mut case = Book::new(rt.alloc(), Sc, GlobalClock)?;
+    let mut case = ScCase::new(rt.alloc(), Sc, GlobalClock)?;
     check_eq(opened(case.open(0)), (7, 2, 1))?;
     check_eq(admitted(case.admit(entry(0, 2, 16, 1))), (0, 0, 1))?;
     check_eq(opened(case.open(0)), (7, 2, 2))?;

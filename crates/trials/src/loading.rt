@@ -1,5 +1,5 @@
 // What loading tells of bytes, and what it leaves in the case.
-use crate::tools::Book;
+use crate::tools::ScCase;
 use crate::tools::EMPTY;
 use crate::tools::MESSAGE;
 use crate::tools::ORPHAN;
@@ -16,7 +16,7 @@ use std::test::*;
 
 // Loads bytes into a decided case of two records, and then admits a load of 0: a case that is as it was refuses that with
 // 3 at place 3, a sealed one with 4, and an open one answers the number of the record.
-fn load_then_admit(case: &mut Book, bytes: &[u8], load: Told, admit: Told) -> Result<(), Fail> {
+fn load_then_admit(case: &mut ScCase, bytes: &[u8], load: Told, admit: Told) -> Result<(), Fail> {
     check_eq(loaded(case.load(&ORPHAN)), (0, 0, 203))?;
     check_eq(loaded(case.load(bytes)), load)?;
     check_eq(admitted(case.admit(entry(0, 1, 16, 0))), admit)
@@ -42,7 +42,7 @@ fn after_cut(left: usize) -> Told {
 
 #[test]
 fn a_run_cut_at_any_length_is_refused_at_the_field_that_is_cut(rt: LibcRuntime) -> Result<(), Fail> {
-    let mut case = Book::new(rt.alloc(), Sc, GlobalClock)?;
+    let mut case = ScCase::new(rt.alloc(), Sc, GlobalClock)?;
     for n in 0..141 {
         load_then_admit(&mut case, &MESSAGE[0..n], (1, 1, cut_field(n)), after_cut(n)).note(format_args!("cut to {n}"))?;
     }
@@ -117,7 +117,7 @@ const CONTENTS: [Change; 24] = [
     (129, 9, (11, 2, 105), (0, 0, 4)),
 ];
 
-fn load_changed(case: &mut Book, changes: &[Change]) -> Result<(), Fail> {
+fn load_changed(case: &mut ScCase, changes: &[Change]) -> Result<(), Fail> {
     for change in changes {
         let (at, byte, load, admit) = *change;
         let mut bytes = MESSAGE;
@@ -131,7 +131,7 @@ fn load_changed(case: &mut Book, changes: &[Change]) -> Result<(), Fail> {
 
 #[test]
 fn a_byte_that_is_changed_is_told_at_its_field_and_what_came_before_stays(rt: LibcRuntime) -> Result<(), Fail> {
-    let mut case = Book::new(rt.alloc(), Sc, GlobalClock)?;
+    let mut case = ScCase::new(rt.alloc(), Sc, GlobalClock)?;
     load_changed(&mut case, &SHAPES)?;
     load_changed(&mut case, &CONTENTS)
 }
@@ -139,7 +139,7 @@ fn a_byte_that_is_changed_is_told_at_its_field_and_what_came_before_stays(rt: Li
 // No bytes, a run without its head, an end alone, and bytes behind the end.
 #[test]
 fn a_run_begins_with_its_head_and_ends_with_its_end(rt: LibcRuntime) -> Result<(), Fail> {
-    let mut case = Book::new(rt.alloc(), Sc, GlobalClock)?;
+    let mut case = ScCase::new(rt.alloc(), Sc, GlobalClock)?;
     load_then_admit(&mut case, &[], (1, 1, 0), AS_IT_WAS)?;
     load_then_admit(&mut case, &MESSAGE[6..141], (1, 1, 0), AS_IT_WAS)?;
     load_then_admit(&mut case, &MESSAGE[138..141], (1, 1, 0), AS_IT_WAS)?;
@@ -158,7 +158,7 @@ fn a_run_begins_with_its_head_and_ends_with_its_end(rt: LibcRuntime) -> Result<(
 // Marks come before processors, a field's shape before its content, and its content before the next field.
 #[test]
 fn loading_tells_the_first_of_several_faults(rt: LibcRuntime) -> Result<(), Fail> {
-    let mut case = Book::new(rt.alloc(), Sc, GlobalClock)?;
+    let mut case = ScCase::new(rt.alloc(), Sc, GlobalClock)?;
     let mut bytes = MESSAGE;
     bytes[3] = 0;
     bytes[4] = 2;

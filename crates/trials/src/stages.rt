@@ -1,5 +1,5 @@
 // What sealing decides, and what a sealed or decided case refuses.
-use crate::tools::Book;
+use crate::tools::ScCase;
 use crate::tools::Row;
 use crate::tools::admit_rows;
 use crate::tools::admitted;
@@ -14,7 +14,7 @@ use memory::verdicts::verdict_number;
 use std::test::*;
 
 // A sound record, one with a bad kind and a second sealing are all told the same.
-fn is_closed(case: &mut Book, refusal: u8, records: usize) -> Result<(), Fail> {
+fn is_closed(case: &mut ScCase, refusal: u8, records: usize) -> Result<(), Fail> {
     let want = (refusal, 2, records.saturating_add(1));
     check_eq(admitted(case.admit(entry(0, 2, 64, 9))), want)?;
     check_eq(admitted(case.admit(entry(0, 9, 64, 9))), want)?;
@@ -24,7 +24,7 @@ fn is_closed(case: &mut Book, refusal: u8, records: usize) -> Result<(), Fail> {
 
 #[test]
 fn a_sealed_case_refuses_with_four_and_a_decided_one_with_three(rt: LibcRuntime) -> Result<(), Fail> {
-    let mut case = Book::new(rt.alloc(), Sc, GlobalClock)?;
+    let mut case = ScCase::new(rt.alloc(), Sc, GlobalClock)?;
     check_eq(verdict_number(case.stage().verdict()), 0)?;
     // an empty case
     check_eq(sealed(case.seal()), (0, 0, 1))?;
@@ -63,7 +63,7 @@ const UNREAD: [Row; 3] = [
 
 #[test]
 fn sealing_tells_the_smallest_orphan_and_no_load_of_a_store_or_of_zero(rt: LibcRuntime) -> Result<(), Fail> {
-    let mut case = Book::new(rt.alloc(), Sc, GlobalClock)?;
+    let mut case = ScCase::new(rt.alloc(), Sc, GlobalClock)?;
     check_eq(opened(case.open(2)), (0, 0, 0))?;
     admit_rows(&mut case, &READ)?;
     check_eq(sealed(case.seal()), (0, 0, 0))?;

@@ -11,7 +11,7 @@ use memory::verdicts::verdict_number;
 use std::test::*;
 use wire::faults::RunFault;
 
-pub type Book = Case<Sc, GlobalClock>;
+pub type ScCase = Case<Sc, GlobalClock>;
 
 // A refusal's number, layer and place; or 0, 0 and a number where the call passed.
 pub type Told = (u8, u8, usize);
@@ -102,7 +102,7 @@ pub fn entry(processor: u8, kind: u8, address: u32, value: u64) -> Entry {
 }
 
 // Admits row after row, and compares what is told.
-pub fn admit_rows(case: &mut Book, rows: &[Row]) -> Result<(), Fail> {
+pub fn admit_rows(case: &mut ScCase, rows: &[Row]) -> Result<(), Fail> {
     for (i, row) in rows.iter().enumerate() {
         let ((processor, kind, address, value, enter, commit), want) = *row;
         let e = Entry {

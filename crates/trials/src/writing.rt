@@ -1,5 +1,5 @@
 // The bytes that a case writes, and what it refuses to write.
-use crate::tools::Book;
+use crate::tools::ScCase;
 use crate::tools::EMPTY;
 use crate::tools::MESSAGE;
 use crate::tools::ORPHAN;
@@ -37,7 +37,7 @@ const ORPHANED: [Row; 2] = [
 
 #[test]
 fn run_slip_and_paper_are_these_bytes_and_the_rest_is_kept(rt: LibcRuntime) -> Result<(), Fail> {
-    let mut case = Book::new(rt.alloc(), Sc, GlobalClock)?;
+    let mut case = ScCase::new(rt.alloc(), Sc, GlobalClock)?;
     admit_rows(&mut case, &ORPHANED)?;
     let mut out = [OLD; 80];
     check_eq(written(case.write_run(&mut out)), (0, 0, 75))?;
@@ -57,7 +57,7 @@ fn run_slip_and_paper_are_these_bytes_and_the_rest_is_kept(rt: LibcRuntime) -> R
 
 #[test]
 fn one_byte_too_few_is_refused_and_nothing_is_written(rt: LibcRuntime) -> Result<(), Fail> {
-    let mut case = Book::new(rt.alloc(), Sc, GlobalClock)?;
+    let mut case = ScCase::new(rt.alloc(), Sc, GlobalClock)?;
     check_eq(loaded(case.load(&ORPHAN)), (0, 0, 203))?;
     let mut run = [OLD; 74];
     check_eq(written(case.write_run(&mut run)), (15, 2, 3))?;
@@ -78,7 +78,7 @@ fn one_byte_too_few_is_refused_and_nothing_is_written(rt: LibcRuntime) -> Result
 // Too few bytes come after it.
 #[test]
 fn an_undecided_case_has_no_paper(rt: LibcRuntime) -> Result<(), Fail> {
-    let mut case = Book::new(rt.alloc(), Sc, GlobalClock)?;
+    let mut case = ScCase::new(rt.alloc(), Sc, GlobalClock)?;
     let mut out = [OLD; 40];
     check_eq(written(case.write_paper(&mut out)), (14, 2, 1))?;
     check_eq(written(case.write_paper(&mut [])), (14, 2, 1))?;
@@ -89,7 +89,7 @@ fn an_undecided_case_has_no_paper(rt: LibcRuntime) -> Result<(), Fail> {
 }
 
 // Loads a run and writes it.
-fn comes_back(case: &mut Book, run: &[u8]) -> Result<(), Fail> {
+fn comes_back(case: &mut ScCase, run: &[u8]) -> Result<(), Fail> {
     let mut out = [OLD; 200];
     check(case.load(run).is_ok())?;
     check(run.len() < 200)?;
@@ -107,7 +107,7 @@ const WIDE: [Row; 4] = [
 
 #[test]
 fn a_run_is_written_as_it_was_loaded_and_loads_as_it_was_written(rt: LibcRuntime) -> Result<(), Fail> {
-    let mut case = Book::new(rt.alloc(), Sc, GlobalClock)?;
+    let mut case = ScCase::new(rt.alloc(), Sc, GlobalClock)?;
     comes_back(&mut case, &MESSAGE)?;
     comes_back(&mut case, &ORPHAN)?;
     comes_back(&mut case, &EMPTY)?;
@@ -117,14 +117,14 @@ fn a_run_is_written_as_it_was_loaded_and_loads_as_it_was_written(rt: LibcRuntime
     check_eq(written(case.write_run(&mut out)), (0, 0, 141))?;
     check_eq(&out[0..6], &[1, 0, 3, 16, 1, 1][..])?;
     check_eq(&out[9..23], &[15, 2, 1, 2, 3, 4, 0x11, 0x12, 0x13, 0x14, 0x15, 0x16, 0x17, 0x18][..])?;
-    let mut other = Book::new(rt.alloc(), Sc, GlobalClock)?;
+    let mut other = ScCase::new(rt.alloc(), Sc, GlobalClock)?;
     comes_back(&mut other, &out)?;
     check_eq((other.processors(), other.records().len()), (16, 4))
 }
 
 #[test]
 fn what_a_refused_loading_leaves_is_written(rt: LibcRuntime) -> Result<(), Fail> {
-    let mut case = Book::new(rt.alloc(), Sc, GlobalClock)?;
+    let mut case = ScCase::new(rt.alloc(), Sc, GlobalClock)?;
     let mut out = [OLD; 75];
     let mut bytes = MESSAGE;
     check_eq(loaded(case.load(&ORPHAN)), (0, 0, 203))?;
@@ -160,7 +160,7 @@ fn a_case_writes_and_takes_only_the_marks_of_its_model_and_clock(rt: LibcRuntime
 // Under each pair of marks, with one byte too few first.
 #[test]
 fn the_paper_of_an_empty_run_is_an_empty_order(rt: LibcRuntime) -> Result<(), Fail> {
-    let mut case = Book::new(rt.alloc(), Sc, GlobalClock)?;
+    let mut case = ScCase::new(rt.alloc(), Sc, GlobalClock)?;
     check_eq(loaded(case.load(&EMPTY)), (0, 0, 1))?;
     check_eq(written(case.write_paper(&mut [OLD; 12])), (15, 2, 1))?;
     let mut out = [OLD; 16];

@@ -62,9 +62,9 @@ pub records-long : (rs : List Record) → length (all-of record-field rs) ≡ 33
 records-long [] = refl
 records-long (r ∷ rs) = omega (arith, records-long rs)
 
-all-more : (rs : List Record) (r : Record) → all-of record-field (rs ++ r ∷ []) ≡ all-of record-field rs ++ record-field r
-all-more [] r = refl
-all-more (x ∷ rs) r = ap (λ l. record-field x ++ l) (all-more rs r) ∙ sym (append-assoc (record-field x) (all-of record-field rs) (record-field r))
+pub all-of-end : (rs : List Record) (r : Record) → all-of record-field (rs ++ r ∷ []) ≡ all-of record-field rs ++ record-field r
+all-of-end [] r = refl
+all-of-end (x ∷ rs) r = ap (λ l. record-field x ++ l) (all-of-end rs r) ∙ sym (append-assoc (record-field x) (all-of record-field rs) (record-field r))
 
 pub records-more : (out : List ℕ) (rs : List Record) (start i at : ℕ) (d : Record) → i < length rs → at ≡ start + 33 * i → at + 33 ≤ length out →
     over (over out start (all-of record-field (take i rs))) at (record-field (getD rs i d)) ≡ over out start (all-of record-field (take (i + 1) rs))
@@ -73,7 +73,7 @@ records-more out rs start i at d within is room =
     let short : length (take i rs) ≡ i = length-take-le i rs (omega arith) in
     let long : start + length front ≡ at = omega (arith, records-long (take i rs)) in
     over-over out front (record-field (getD rs i d)) start at long (omega arith)
-    ∙ ap (over out start) (sym (all-more (take i rs) (getD rs i d)) ∙ ap (all-of record-field) (sym (take-more rs i d within)))
+    ∙ ap (over out start) (sym (all-of-end (take i rs) (getD rs i d)) ∙ ap (all-of record-field) (sym (take-more rs i d within)))
 
 -- bytes written at the front are written
 pub written-front : (out after bs : List ℕ) (n : ℕ) → n ≡ length bs → length bs ≤ length out → after ≡ over out 0 bs → Written bs out after (Ok n)
