@@ -1,4 +1,6 @@
 // What the program answers: a run's bytes in, slip and paper or a notice out.
+#![tactic(auto)]
+
 ghost use Rattle.std.specs.Prelude.{◌≡◌, ◌≤◌, true, ◌++◌, length, take, is_ok, IfOk, slice_index};
 ghost use Rattle.checker.specs.Output.{output, answer_to, or_none, OutputClaims};
 ghost use Rattle.memory.specs.Limits.{input_limit};

@@ -1,4 +1,6 @@
 // Tells in plain words what the checker does with a run, from the first byte to the paper.
+#![tactic(auto)]
+
 ghost use Rattle.std.specs.Prelude.{◌≡◌, ◌<◌, true, length, slice_index};
 
 mod papers;

@@ -1,4 +1,6 @@
 // What both programs take: their arguments, and the bytes of a run on standard input.
+#![tactic(auto)]
+
 ghost use Rattle.std.specs.Prelude.{◌≤◌, IfOk};
 
 use memory::limits::INPUT_LIMIT;

@@ -1,4 +1,6 @@
 // Tests of the checker: its calls, its bytes and what they answer.
+#![tactic(auto)]
+
 #[cfg(test)]
 mod admission;
 #[cfg(test)]

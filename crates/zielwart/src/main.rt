@@ -1,4 +1,6 @@
 // The checker as a program: a run's bytes on standard input, slip and paper or a notice on standard output.
+#![tactic(auto)]
+
 use anyhow::anyhow;
 use checker::answer;
 use intake::{ROOM, Request, asked, read_input};

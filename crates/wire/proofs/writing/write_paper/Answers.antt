@@ -12,8 +12,8 @@ pub returns : goal.returns
 returns c =
     let out : List ℕ = c.args.out.now in
     let h = c.args.head in
-    let first = c.put-field-body.ensures.bytes ∙ ap (λ v. over out 0 (field 16 (v ∷ h.model ∷ h.clock ∷ h.records ∷ []))) c.number.ensures in
-    let body : c.put-field-body.result ≡ 7 = c.put-field-body.ensures.end in
-    let second = c.put-body-end.ensures.bytes ∙ ap (λ k. over c.put-field-body.new.out k (paper_body c.args.paper)) body in
-    let end : 7 + length (paper_body c.args.paper) ≡ c.put-body-end.result = omega (arith, c.put-body-end.ensures.end) in
-    written_three out _ _ _ (field 16 (paper_number c.args.paper ∷ h.model ∷ h.clock ∷ h.records ∷ [])) (paper_body c.args.paper) (field 31 []) 7 _ _ first refl second end c.put-field.ensures.bytes (omega arith) (omega (arith, leb-true _ _ (sym c.if-not-fits.ensures)))
+    let first = c.put_field-body.ensures.bytes ∙ ap (λ v. over out 0 (field 16 (v ∷ h.model ∷ h.clock ∷ h.records ∷ []))) c.number.ensures in
+    let body : c.put_field-body.result ≡ 7 = c.put_field-body.ensures.end in
+    let second = c.put_body-end.ensures.bytes ∙ ap (λ k. over c.put_field-body.new.out k (paper_body c.args.paper)) body in
+    let end : 7 + length (paper_body c.args.paper) ≡ c.put_body-end.result = omega (arith, c.put_body-end.ensures.end) in
+    written_three out _ _ _ (field 16 (paper_number c.args.paper ∷ h.model ∷ h.clock ∷ h.records ∷ [])) (paper_body c.args.paper) (field 31 []) 7 _ _ first refl second end c.put_field.ensures.bytes (omega arith) (omega (arith, leb-true _ _ (sym c.if-not-fits.ensures)))
