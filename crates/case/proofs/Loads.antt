@@ -1,20 +1,18 @@
 -- How loading ends, once the head has passed. Assumes nothing.
-use Rattle.std.proofs.Common.{◌≡◌, ℕ, ◌+◌, ◌-◌, ◌*◌, ◌<◌, ◌≤◌, Bool, true, false, cond, ltb, List, [], ◌∷◌, ◌++◌, length, take, drop, Ok, Err, Option, Result, sym, refl, ap, ◌∙◌, subst, append_assoc, arith, length-append}
+use Rattle.std.proofs.Common.{◌≡◌, ℕ, ◌+◌, ◌*◌, ◌<◌, ◌≤◌, cond, List, [], ◌++◌, length, take, drop, Ok, Err, Result, sym, ap, ◌∙◌, subst, append_assoc, arith, length-append}
 use Rattle.std.proofs.lemmas.List.{take_at, drop_all, length-drop}
 use Rattle.std.proofs.lemmas.Bool.{lt-ltb, le-ltb}
-use Rattle.memory.specs.declared.records.Record.{Record}
-use Rattle.wire.specs.declared.faults.ByteFault.{ByteFault}
 use Rattle.wire.specs.declared.faults.RunFault.{RunFault}
 use Rattle.wire.specs.declared.faults.RunFault.TheVariants.{Bytes}
-use Rattle.wire.specs.Bytes.{field, all_of, record_field, run_head, run_bytes}
+use Rattle.wire.specs.Bytes.{field, all_of, record_field, run_head}
 use Rattle.wire.specs.declared.fields.Reader.{Reader}
 use Rattle.wire.specs.Fields.{pieces, fault_at}
 use Rattle.wire.specs.Seen.{left}
 use Rattle.wire.proofs.Over.{records_long}
 use Rattle.case.specs.State.{State}
-use Rattle.case.specs.Calls.{Outcome, sealed, sealed_verdict}
+use Rattle.case.specs.Calls.{sealed, sealed_verdict}
 use Rattle.case.specs.Loading.{Loaded, load_fields, load_end, go_on, loading, ended_as, place_of, Front, Kept}
-use Rattle.case.specs.Parts.{Walked, left_by, told_by, NotBefore, Headed}
+use Rattle.case.specs.Parts.{Walked, Headed}
 
 module _ (model clock : ℕ) (s : State) (bs : List ℕ) (t : State) (at : ℕ) (head : Headed model clock s bs t at (Ok tt)) (u : State) where
   -- all bytes: the head, the records, and what is left

@@ -1,18 +1,17 @@
 -- How far loading has come, from turn to turn. Assumes nothing.
-use Rattle.std.proofs.Common.{◌≡◌, ℕ, ◌+◌, ◌≤◌, List, [], ◌∷◌, ◌++◌, length, drop, Ok, Err, Result, sym, refl, ap, ◌∙◌, subst, append_assoc, append-nil, arith}
-use Rattle.memory.specs.declared.records.Record.{Record}
+use Rattle.std.proofs.Common.{◌≡◌, ℕ, ◌+◌, ◌≤◌, List, [], ◌∷◌, ◌++◌, length, drop, Ok, Err, sym, refl, ap, ◌∙◌, subst, append_assoc, append-nil, arith}
 use Rattle.wire.specs.declared.faults.ByteFault.{ByteFault}
 use Rattle.wire.specs.declared.faults.RunFault.{RunFault}
 use Rattle.wire.specs.declared.faults.RunFault.TheVariants.{Bytes}
 use Rattle.wire.specs.declared.fields.Text.TheVariants.{Run}
 use Rattle.wire.specs.Bytes.{field, all_of, record_field}
-use Rattle.wire.specs.Fields.{Piece, pieces, Shown, fault_at, tag_of, next_field, later}
+use Rattle.wire.specs.Fields.{Piece, pieces, Shown, tag_of, next_field, later}
 use Rattle.wire.specs.declared.fields.Reader.{Reader}
 use Rattle.wire.specs.Seen.{left, Passed}
 use Rattle.wire.proofs.Over.{all_of_end}
-use Rattle.case.specs.State.{State, with_record}
-use Rattle.case.specs.Loading.{Loaded, stopped, ended_as, load_sort, load_field, load_fields, place_of}
-use Rattle.case.specs.Parts.{onward, ended, fell, Turned, Gained, Walked, told_by, left_by, NotBefore}
+use Rattle.case.specs.State.{State}
+use Rattle.case.specs.Loading.{stopped, ended_as, load_sort, load_field, load_fields, place_of}
+use Rattle.case.specs.Parts.{onward, ended, fell, Turned, Gained, Walked, left_by}
 
 -- a field more of a list of fields
 fields_step : (s : State) (at : ℕ) (ps : List Piece) → load_fields s at ps ≡ load_field (next_field Run at ps) s (λ t next. load_fields t next (later ps))

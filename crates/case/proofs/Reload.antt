@@ -1,5 +1,5 @@
 -- The run that a case writes loads as the same records. Assumes nothing.
-use Rattle.std.proofs.Common.{◌≡◌, ℕ, suc, ◌+◌, ◌-◌, ◌*◌, ◌^◌, ◌<◌, ◌≤◌, Bool, true, false, cond, not, ◌&&◌, eqb, ltb, leb, List, [], ◌∷◌, ◌++◌, length, is_ok, Some, None, Ok, Err, sym, refl, ap, ◌∙◌, subst, append_assoc, append-nil, arith, length-append}
+use Rattle.std.proofs.Common.{◌≡◌, ℕ, ◌+◌, ◌*◌, ◌^◌, ◌<◌, true, cond, not, ◌&&◌, eqb, ltb, leb, List, [], ◌∷◌, ◌++◌, length, is_ok, Some, None, Ok, Err, sym, refl, ap, ◌∙◌, append_assoc, append-nil, arith, length-append}
 use Rattle.std.proofs.lemmas.Bool.{and_parts, or_parts, leb-false, ltb-true, eq-eqb, le-ltb}
 use Rattle.memory.specs.declared.records.Record.{Record}
 use Rattle.memory.specs.declared.refusals.Refusal.TheVariants as refuse
@@ -9,14 +9,14 @@ use Rattle.memory.specs.Limits.{reading_limit}
 use Rattle.memory.proofs.Admitted.{judged, admits_again}
 use Rattle.wire.specs.declared.faults.RunFault.TheVariants.{Bytes}
 use Rattle.wire.specs.declared.fields.Text.TheVariants.{Run}
-use Rattle.wire.specs.Bytes.{field, all_of, digits, number_on, entry_bytes, entry_in, record_field, run_head, run_bytes}
-use Rattle.wire.specs.Fields.{Piece, whole, pieces, next_field, later, entry_of, fault_at}
+use Rattle.wire.specs.Bytes.{field, all_of, digits, number_on, entry_bytes, entry_in, record_field, run_bytes}
+use Rattle.wire.specs.Fields.{Piece, whole, next_field, later, entry_of, fault_at}
 use Rattle.wire.proofs.Digits.{digits_back}
 use Rattle.wire.proofs.Found.{wholes, run_found}
 use Rattle.wire.proofs.Over.{records_long}
-use Rattle.case.specs.State.{State, opened, with_record}
+use Rattle.case.specs.State.{State, opened}
 use Rattle.case.specs.Calls.{sealed, sealed_verdict}
-use Rattle.case.specs.Loading.{Loaded, load_judged, load_entry, load_fields, load_begun, load_end, go_on, load_by, loading, ended_as, Reloads}
+use Rattle.case.specs.Loading.{Loaded, load_judged, load_entry, load_fields, load_begun, go_on, load_by, loading, ended_as, Reloads}
 
 -- the bytes of a record say what was logged
 entry_back : (r : Record) → r.address < 256 ^ 4 → r.value < 256 ^ 8 → r.enter < 256 ^ 8 → r.commit < 256 ^ 8 → entry_in (entry_bytes (logged r)) ≡ logged r

@@ -1,5 +1,5 @@
 -- One field of a run, as a case loads it. Assumes nothing.
-use Rattle.std.proofs.Common.{◌≡◌, ℕ, List, [], ◌∷◌, ◌++◌, Ok, Err, Result, sym, refl, ap, ◌∙◌, subst, arith}
+use Rattle.std.proofs.Common.{◌≡◌, ℕ, List, Ok, Err, Result, sym, refl, ap, ◌∙◌, arith}
 use Rattle.memory.specs.declared.records.Entry.{Entry}
 use Rattle.memory.specs.declared.records.Record.{Record}
 use Rattle.memory.specs.declared.refusals.Refusal.{Refusal}
@@ -8,10 +8,10 @@ use Rattle.memory.proofs.Admitted.{logged_back}
 use Rattle.wire.specs.declared.faults.RunFault.TheVariants.{Content}
 use Rattle.wire.specs.Bytes.{field, entry_bytes}
 use Rattle.wire.specs.Fields.{record_field as record_sort, Shown, entry_of}
-use Rattle.case.specs.State.{State, with_record}
+use Rattle.case.specs.State.{State}
 use Rattle.case.specs.Calls.{numbered_by, admit_by}
 use Rattle.case.specs.Loading.{load_judged, load_entry}
-use Rattle.case.specs.Parts.{Went, onward, fell, Turned, Gained}
+use Rattle.case.specs.Parts.{onward, fell, Turned, Gained}
 
 module _ (s t : State) (at : ℕ) (c : List ℕ) (e : Entry) (says : Ok e ≡ entry_of at c) (back : entry_bytes e ≡ c) where
   abbrev the_field : Shown

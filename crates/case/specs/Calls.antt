@@ -15,7 +15,7 @@ use Rattle.memory.specs.Runs.{Run}
 use Rattle.wire.specs.Bytes.{run_bytes, slip_bytes, paper_bytes, order_body, orphan_body}
 use Rattle.case.specs.declared.stages.Call.TheVariants.{Admit, Seal}
 use Rattle.case.specs.declared.stages.Stage.{Stage}
-use Rattle.case.specs.declared.stages.Stage.TheVariants.{Open, Sealed, Decided}
+use Rattle.case.specs.declared.stages.Stage.TheVariants.{Sealed, Decided}
 use Rattle.case.specs.State.{State, opened, with_record, with_stage, permits, verdict_at, case_fault}
 
 pub record Outcome (A : Type 0) : Type 0 where

@@ -1,5 +1,5 @@
 -- Loading a run from bytes. Assumes nothing.
-use Rattle.std.specs.Prelude.{◌≡◌, ℕ, ◌+◌, ◌*◌, ◌<◌, ◌≤◌, Bool, true, false, cond, not, ◌&&◌, List, [], ◌∷◌, ◌++◌, length, take, Some, None, Ok, Err, Option, Result, ◌==◌, nat_lt}
+use Rattle.std.specs.Prelude.{◌≡◌, ℕ, ◌+◌, ◌*◌, ◌<◌, cond, not, ◌&&◌, List, [], ◌∷◌, ◌++◌, length, take, Some, None, Ok, Err, Option, Result, ◌==◌, nat_lt}
 use Rattle.memory.specs.declared.records.Entry.{Entry}
 use Rattle.memory.specs.declared.records.Record.{Record}
 use Rattle.memory.specs.declared.refusals.Refusal.{Refusal}
@@ -11,10 +11,9 @@ use Rattle.wire.specs.declared.faults.RunFault.{RunFault}
 use Rattle.wire.specs.declared.faults.RunFault.TheVariants.{Bytes, Content}
 use Rattle.wire.specs.declared.fields.RunHead.{RunHead}
 use Rattle.wire.specs.declared.fields.Text.TheVariants.{Run}
-use Rattle.wire.specs.Bytes.{field, all_of, record_field, run_head, run_bytes}
+use Rattle.wire.specs.Bytes.{all_of, record_field, run_head, run_bytes}
 use Rattle.wire.specs.Faults.{run_fault}
-use Rattle.wire.specs.Fields.{Piece, pieces, Sort, head_field, record_field as record_sort, line_field, order_field, orphan_field, end_field, tag_of, Shown, fault_at, next_field, later, entry_of, run_head_of}
-use Rattle.wire.specs.Tags.{run_end_tag}
+use Rattle.wire.specs.Fields.{Piece, pieces, Sort, head_field, record_field as record_sort, line_field, order_field, orphan_field, end_field, Shown, fault_at, next_field, later, entry_of, run_head_of}
 use Rattle.case.specs.State.{State, opened, with_record}
 use Rattle.case.specs.Calls.{Outcome, sealed_verdict, sealed}
 

@@ -7,7 +7,7 @@ use Rattle.wire.specs.declared.faults.RunFault.{RunFault}
 use Rattle.wire.specs.Bytes.{notice_bytes}
 use Rattle.wire.specs.Faults.{run_fault}
 use Rattle.case.specs.State.{State, opened}
-use Rattle.case.specs.Calls.{Outcome, slip_in, paper_in, AnswerClaims}
+use Rattle.case.specs.Calls.{slip_in, paper_in, AnswerClaims}
 use Rattle.case.specs.Loading.{loading}
 
 abbrev pub or_none : Option (List ℕ) → List ℕ

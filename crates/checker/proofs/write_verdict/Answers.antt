@@ -1,4 +1,4 @@
-use Rattle.std.proofs.Common.{◌≡◌, ℕ, ◌-◌, List, [], ◌++◌, length, sym, ap, ◌∙◌, append-nil, arith, rules}
+use Rattle.std.proofs.Common.{ℕ, ◌-◌, List, ◌++◌, length, sym, ap, ◌∙◌, append-nil, rules}
 use Rattle.case.specs.State.{State, verdict_at}
 use Rattle.case.specs.Calls.{slip_in}
 use Rattle.case.specs.Views.{view}

@@ -1,4 +1,4 @@
-use Rattle.std.proofs.Common.{◌≡◌, ℕ, ◌+◌, ◌-◌, ◌<◌, Bool, List, length, get_or, Some, None, Option, sym, ap, ◌∙◌, subst, add-one, arith}
+use Rattle.std.proofs.Common.{◌≡◌, ℕ, ◌+◌, ◌-◌, Bool, List, length, get_or, Some, None, Option, sym, ap, ◌∙◌, subst, add-one, arith}
 use Rattle.memory.specs.declared.records.Record.{Record}
 use Rattle.memory.specs.Reading.{unread, orphan, pick, numbered, first_orphan, Least}
 use Rattle.memory.specs.Runs.{blank}

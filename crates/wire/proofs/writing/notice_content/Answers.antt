@@ -1,4 +1,4 @@
-use Rattle.std.proofs.Common.{◌≡◌, ℕ, ◌/◌, ◌%◌, List, [], ◌∷◌, ◌++◌, sym, refl, ap, ◌∙◌, arith}
+use Rattle.std.proofs.Common.{◌≡◌, ℕ, ◌/◌, ◌%◌, List, [], ◌∷◌, sym, refl, ap, ◌∙◌, arith}
 use Rattle.memory.specs.Numbers.{refusal_number, layer_number}
 use Rattle.wire.specs.Bytes.{digits}
 use Rattle.wire.specs.Written.{over}

@@ -1,4 +1,4 @@
-use Rattle.std.proofs.Common.{◌≡◌, ℕ, ◌+◌, ◌*◌, List, length, get_or, take, refl, ap, ◌∙◌, arith, take_all}
+use Rattle.std.proofs.Common.{◌≡◌, ℕ, List, length, take, refl, ap, ◌∙◌, arith, take_all}
 use Rattle.memory.specs.declared.lines.Line.{Line}
 use Rattle.wire.specs.Bytes.{field, line_field, lines_body}
 use Rattle.wire.specs.Written.{over}

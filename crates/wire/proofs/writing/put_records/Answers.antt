@@ -1,4 +1,4 @@
-use Rattle.std.proofs.Common.{◌≡◌, ℕ, ◌+◌, ◌*◌, List, length, get_or, take, refl, ap, ◌∙◌, arith, take_all}
+use Rattle.std.proofs.Common.{◌≡◌, ℕ, List, length, get_or, take, refl, ap, ◌∙◌, arith, take_all}
 use Rattle.memory.specs.declared.records.Record.{Record}
 use Rattle.memory.specs.Runs.{blank}
 use Rattle.wire.specs.Bytes.{field, all_of, record_field}

@@ -1,4 +1,4 @@
-use Rattle.std.proofs.Common.{◌≡◌, ℕ, List, length, ap, ◌∙◌, arith}
+use Rattle.std.proofs.Common.{ℕ, List, length, ap, ◌∙◌, arith}
 use Rattle.wire.specs.Bytes.{field}
 use Rattle.wire.specs.Written.{over}
 use Rattle.wire.proofs.Over.{written_front}

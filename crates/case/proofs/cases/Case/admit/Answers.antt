@@ -1,4 +1,4 @@
-use Rattle.std.proofs.Common.{◌≡◌, ℕ, Ok, Err, vec_items, Result, sym, refl, ap, ◌∙◌, arith, rules}
+use Rattle.std.proofs.Common.{◌≡◌, ℕ, Ok, Err, vec_items, Result, sym, ap, ◌∙◌, arith}
 use Rattle.memory.specs.declared.records.Record.{Record}
 use Rattle.memory.specs.declared.refusals.Refusal.{Refusal}
 use Rattle.memory.specs.Admission.{judgement}

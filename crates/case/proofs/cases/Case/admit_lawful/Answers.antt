@@ -1,4 +1,4 @@
-use Rattle.std.proofs.Common.{◌≡◌, ℕ, ◌<◌, true, List, [], Ok, vec_items, sym, ap, ◌∙◌, subst, arith, rules}
+use Rattle.std.proofs.Common.{◌≡◌, ℕ, ◌<◌, true, List, [], Ok, vec_items, sym, ap, ◌∙◌, subst, rules}
 use Rattle.memory.specs.declared.records.Record.{Record}
 use Rattle.memory.specs.Admission.{judgement, admits, sized}
 use Rattle.memory.proofs.Admitted.{admits_more, sized_more}

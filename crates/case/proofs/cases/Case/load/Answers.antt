@@ -1,4 +1,4 @@
-use Rattle.std.proofs.Common.{◌≡◌, ℕ, ◌<◌, ◌≤◌, List, [], ◌++◌, length, drop, Ok, Err, sym, refl, ap, ◌∙◌, subst}
+use Rattle.std.proofs.Common.{◌≡◌, ℕ, ◌<◌, ◌≤◌, List, [], ◌++◌, length, drop, Ok, Err, sym, ap, ◌∙◌, subst}
 use Rattle.std.proofs.lemmas.Result.{err_from_is_err_and}
 use Rattle.memory.specs.Legal.{Claims}
 use Rattle.memory.specs.Runs.{setting, run_of}
@@ -7,7 +7,7 @@ use Rattle.wire.specs.declared.faults.RunFault.TheVariants.{Bytes}
 use Rattle.wire.specs.Bytes.{field, run_bytes}
 use Rattle.wire.specs.Fields.{fault_at}
 use Rattle.case.specs.State.{State}
-use Rattle.case.specs.Calls.{sealed, AnswerClaims}
+use Rattle.case.specs.Calls.{AnswerClaims}
 use Rattle.case.specs.Loading.{ended_as, place_of, Kept}
 use Rattle.case.specs.Parts.{Headed}
 use Rattle.case.specs.Views.{view}

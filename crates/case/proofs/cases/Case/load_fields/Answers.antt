@@ -1,16 +1,16 @@
-use Rattle.std.proofs.Common.{◌≡◌, ℕ, ◌≤◌, List, drop, Ok, Err, sym, refl, ap, ◌∙◌, subst}
+use Rattle.std.proofs.Common.{◌≡◌, ℕ, ◌≤◌, List, drop, Ok, Err, sym, ap, ◌∙◌, subst}
 use Rattle.std.proofs.lemmas.Result.{err_from_is_err_and}
 use Rattle.wire.specs.declared.faults.ByteFault.{ByteFault}
 use Rattle.wire.specs.declared.faults.RunFault.{RunFault}
 use Rattle.wire.specs.declared.faults.RunFault.TheVariants.{Bytes}
 use Rattle.wire.specs.declared.fields.Text.TheVariants.{Run}
 use Rattle.wire.specs.Fields.{Shown, next_field, pieces}
-use Rattle.wire.specs.Seen.{shown, left}
+use Rattle.wire.specs.Seen.{shown}
 use Rattle.case.specs.State.{State}
-use Rattle.case.specs.Loading.{ended_as, place_of}
+use Rattle.case.specs.Loading.{ended_as}
 use Rattle.case.specs.Parts.{told_by, left_by, Walked, NotBefore, Turned, Gained, went_field}
 use Rattle.case.specs.Views.{view}
-use Rattle.case.proofs.Progress.{Progress, Took, took, fell_reading, progress_more, at_end, at_fault}
+use Rattle.case.proofs.Progress.{took, fell_reading, progress_more, at_end, at_fault}
 use Rattle.case.proofs.cases.Case.load_fields.Goals as goal
 
 pub returns-in_err-field : goal.returns-in_err-field

@@ -1,7 +1,7 @@
 use Rattle.std.proofs.Common.{ℕ, List, sym, subst, arith}
 use Rattle.memory.specs.declared.lines.Line.{Line}
 use Rattle.memory.specs.Runs.{Run, setting, run_of}
-use Rattle.inference.specs.Listing.{Listing, Lists, Out}
+use Rattle.inference.specs.Listing.{Lists}
 use Rattle.inference.specs.Views.{lines_of}
 use Rattle.inference.proofs.Onward.{lists, lists_out}
 use Rattle.inference.proofs.lines.Lines.infer.Goals as goal

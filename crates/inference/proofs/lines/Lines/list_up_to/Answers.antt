@@ -1,4 +1,4 @@
-use Rattle.memory.specs.Runs.{Run, setting, run_of}
+use Rattle.memory.specs.Runs.{setting, run_of}
 use Rattle.inference.specs.Views.{lines_of}
 use Rattle.inference.proofs.Onward.{reached_none, none_follows, opposed_listed, reached_more, all_listed}
 use Rattle.inference.proofs.lines.Lines.list_up_to.Goals as goal

@@ -1,4 +1,4 @@
-use Rattle.std.proofs.Common.{ℕ, ◌<◌, Bool, length, sym, ◌∙◌, arith}
+use Rattle.std.proofs.Common.{ℕ, ◌<◌, Bool, length, sym, arith}
 use Rattle.inference.specs.Rules.{overwritten}
 use Rattle.inference.specs.Views.{records_in, lines_in, run_in}
 use Rattle.inference.proofs.Loops.{some_more, some_here}
