@@ -1,21 +1,17 @@
 -- What the verdict of sealing claims is true. Assumes nothing.
-use mathlib.Core.List.{List, [], _∷_}
-use Prim.Native.Nat.{ℕ}
-use lib.ListN.{length}
-use Rattle·std.specs.declared.option.Option.{Option}
-use Rattle·std.specs.declared.option.Option.the-variants.{Some, None}
-use Rattle·memory.specs.declared.records.Record.{Record}
-use Rattle·memory.specs.Legal.{Claims}
-use Rattle·memory.specs.Reading.{orphan, first-orphan, Least}
-use Rattle·memory.specs.Runs.{Setting, run-of}
-use Rattle·memory.proofs.Loops.{picked}
-use Rattle·memory.proofs.Orphans.{orphan-none, empty-legal}
-use Rattle·case·specs.Calls.{orphan-verdict, sealed-verdict}
+use Rattle.std.proofs.Common.{ℕ, List, [], ◌∷◌, length, Some, None, Option}
+use Rattle.memory.specs.declared.records.Record.{Record}
+use Rattle.memory.specs.Legal.{Claims}
+use Rattle.memory.specs.Reading.{orphan, first_orphan, Least}
+use Rattle.memory.specs.Runs.{Setting, run_of}
+use Rattle.memory.proofs.Loops.{picked}
+use Rattle.memory.proofs.Orphans.{orphan_none, empty_legal}
+use Rattle.case.specs.Calls.{orphan_verdict, sealed_verdict}
 
-orphan-claims : (S : Setting) (rs : List Record) (o : Option ℕ) → Least (orphan rs) (length rs) o → Claims (run-of S rs) [] (orphan-verdict o)
-orphan-claims S rs None least = tt
-orphan-claims S rs (Some l) (some, within, is, least) = orphan-none S rs l some within is
+orphan_claims : (S : Setting) (rs : List Record) (o : Option ℕ) → Least (orphan rs) (length rs) o → Claims (run_of S rs) [] (orphan_verdict o)
+orphan_claims S rs None least = tt
+orphan_claims S rs (Some l) (some, within, is, least) = orphan_none S rs l some within is
 
-pub sealed-claims : (S : Setting) (rs : List Record) → Claims (run-of S rs) [] (sealed-verdict rs)
-sealed-claims S [] = empty-legal S
-sealed-claims S (r ∷ rs) = orphan-claims S (r ∷ rs) (first-orphan (r ∷ rs)) (picked (orphan (r ∷ rs)) (length (r ∷ rs)))
+pub sealed_claims : (S : Setting) (rs : List Record) → Claims (run_of S rs) [] (sealed_verdict rs)
+sealed_claims S [] = empty_legal S
+sealed_claims S (r ∷ rs) = orphan_claims S (r ∷ rs) (first_orphan (r ∷ rs)) (picked (orphan (r ∷ rs)) (length (r ∷ rs)))

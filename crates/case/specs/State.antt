@@ -1,20 +1,16 @@
 -- Where a case stands, and which calls it lets through. Assumes nothing.
-use mathlib.Core.List.{List, [], _∷_, _++_}
-use Prim.Native.Nat.{ℕ, _+_}
-use lib.ListN.{length}
-use Rattle·std.specs.declared.option.Option.{Option}
-use Rattle·std.specs.declared.option.Option.the-variants.{Some, None}
-use Rattle·memory.specs.declared.lines.Line.{Line}
-use Rattle·memory.specs.declared.records.Record.{Record}
-use Rattle·memory.specs.declared.refusals.Fault.{Fault}
-use Rattle·memory.specs.declared.refusals.Layer.the-variants as layer
-use Rattle·memory.specs.declared.refusals.Refusal.{Refusal}
-use Rattle·memory.specs.declared.refusals.Refusal.the-variants as refuse
-use Rattle·memory.specs.declared.verdicts.Verdict.{Verdict}
-use Rattle·case·specs.declared.stages.Call.{Call}
-use Rattle·case·specs.declared.stages.Call.the-variants.{Admit, Infer, Seal}
-use Rattle·case·specs.declared.stages.Stage.{Stage}
-use Rattle·case·specs.declared.stages.Stage.the-variants.{Open, Sealed, Decided}
+use Rattle.std.specs.Prelude.{ℕ, ◌+◌, List, [], ◌∷◌, ◌++◌, length, Some, None, Option}
+use Rattle.memory.specs.declared.lines.Line.{Line}
+use Rattle.memory.specs.declared.records.Record.{Record}
+use Rattle.memory.specs.declared.refusals.Fault.{Fault}
+use Rattle.memory.specs.declared.refusals.Layer.TheVariants as layer
+use Rattle.memory.specs.declared.refusals.Refusal.{Refusal}
+use Rattle.memory.specs.declared.refusals.Refusal.TheVariants as refuse
+use Rattle.memory.specs.declared.verdicts.Verdict.{Verdict}
+use Rattle.case.specs.declared.stages.Call.{Call}
+use Rattle.case.specs.declared.stages.Call.TheVariants.{Admit, Infer, Seal}
+use Rattle.case.specs.declared.stages.Stage.{Stage}
+use Rattle.case.specs.declared.stages.Stage.TheVariants.{Open, Sealed, Decided}
 
 -- a case: its number of processors, its records, its lines, its stage, and the total of steps
 pub record State : Type 0 where
@@ -28,29 +24,29 @@ pub record State : Type 0 where
 abbrev pub opened : ℕ → State
 opened p = record { processors = p; records = []; lines = []; stage = Open; total = 0 }
 
-abbrev pub with-record : State → Record → State
-with-record s r = record { processors = s .processors; records = s .records ++ r ∷ []; lines = s .lines; stage = s .stage; total = s .total }
+abbrev pub with_record : State → Record → State
+with_record s r = record { processors = s.processors; records = s.records ++ r ∷ []; lines = s.lines; stage = s.stage; total = s.total }
 
-abbrev pub with-stage : State → Stage → State
-with-stage s g = record { processors = s .processors; records = s .records; lines = s .lines; stage = g; total = s .total }
+abbrev pub with_stage : State → Stage → State
+with_stage s g = record { processors = s.processors; records = s.records; lines = s.lines; stage = g; total = s.total }
 
 -- why a stage does not let a call through, if it does not
-abbrev pub refusal-of : Stage → Call → Option Refusal
-refusal-of Open Admit = None
-refusal-of Open Infer = None
-refusal-of Open Seal = None
-refusal-of Sealed Admit = Some refuse.Sealed
-refusal-of Sealed Infer = None
-refusal-of Sealed Seal = Some refuse.Sealed
-refusal-of (Decided v) Admit = Some refuse.Decided
-refusal-of (Decided v) Infer = Some refuse.Decided
-refusal-of (Decided v) Seal = Some refuse.Decided
+abbrev pub refusal_of : Stage → Call → Option Refusal
+refusal_of Open Admit = None
+refusal_of Open Infer = None
+refusal_of Open Seal = None
+refusal_of Sealed Admit = Some refuse.Sealed
+refusal_of Sealed Infer = None
+refusal_of Sealed Seal = Some refuse.Sealed
+refusal_of (Decided v) Admit = Some refuse.Decided
+refusal_of (Decided v) Infer = Some refuse.Decided
+refusal_of (Decided v) Seal = Some refuse.Decided
 
-abbrev pub verdict-at : Stage → Option Verdict
-verdict-at Open = None
-verdict-at Sealed = None
-verdict-at (Decided v) = Some v
+abbrev pub verdict_at : Stage → Option Verdict
+verdict_at Open = None
+verdict_at Sealed = None
+verdict_at (Decided v) = Some v
 
 -- the fault of a call on a case: its place is the number of records plus 1
-abbrev pub case-fault : State → Refusal → Fault
-case-fault s r = record { refusal = r; layer = layer.Content; place = length (s .records) + 1 }
+abbrev pub case_fault : State → Refusal → Fault
+case_fault s r = record { refusal = r; layer = layer.Content; place = length s.records + 1 }

@@ -1,13 +1,10 @@
 // The case itself.
-ghost use mathlib.Core.Path.{_≡_};
-ghost use mathlib.Core.Bool.{true};
-ghost use mathlib.Core.List.{[]};
-ghost use Prim.Native.Nat.{_≤_};
-ghost use Rattle·std.specs.Of.Vec.{vec-items, vec-len, vec-cap};
-ghost use Rattle·memory.specs.Admission.{opens, admits, sized};
-ghost use Rattle·memory.specs.Limits.{most-records};
-ghost use Rattle·inference.specs.Paired.{paired};
-ghost use Rattle·inference.specs.Views.{lines-of};
+ghost use Rattle.std.specs.Prelude.{◌≡◌, ◌≤◌, true, [], vec_len, vec_capacity};
+ghost use Rattle.memory.specs.Admission.{opens, admits, sized};
+ghost use Rattle.memory.specs.Limits.{most_records};
+ghost use Rattle.inference.specs.Paired.{paired};
+ghost use Rattle.inference.specs.Views.{lines_of};
+
 use crate::stages::Stage;
 use inference::lines::Lines;
 use memory::clocks::Clock;
@@ -28,10 +25,10 @@ pub struct Case<M: Model, C: Clock> {
     lines: Lines,
     stage: Stage,
     steps: u64,
-    ghost room: { most-records ≤ vec-cap records },
-    ghost few: { vec-len records ≤ most-records },
+    ghost room: { most_records ≤ vec_capacity records },
+    ghost few: { vec_len records ≤ most_records },
     ghost opened: { opens processors ≡ true },
-    ghost lawful: { admits processors [] (vec-items records) ≡ true },
-    ghost sized: { sized (vec-items records) ≡ true },
-    ghost pairs: { paired (vec-len records) (lines-of lines) ≡ true },
+    ghost lawful: { admits processors [] records.items ≡ true },
+    ghost sized: { sized records.items ≡ true },
+    ghost pairs: { paired (vec_len records) (lines_of lines) ≡ true },
 }

@@ -1,6 +1,7 @@
 // The stages of a case, and the calls that a stage lets through.
-ghost use mathlib.Core.Path.{_≡_};
-ghost use Rattle·case·specs.State.{refusal-of, verdict-at};
+ghost use Rattle.std.specs.Prelude.{◌≡◌};
+ghost use Rattle.case.specs.State.{refusal_of, verdict_at};
+
 use memory::refusals::Refusal;
 use memory::verdicts::Verdict;
 
@@ -21,7 +22,7 @@ pub enum Call {
 impl Stage {
     // Why the stage does not let the call through, if it does not.
     pub fn refuses(self, call: Call) -> Option<Refusal>
-        ensures { λ r. ⌜ r ≡ refusal-of self call ⌝ }
+        ensures { result ≡ refusal_of self call }
     {
         match (self, call) {
             (Stage::Open, Call::Admit | Call::Infer | Call::Seal) => None,
@@ -33,7 +34,7 @@ impl Stage {
 
     // The verdict, or none while the case is not decided.
     pub fn verdict(self) -> Option<Verdict>
-        ensures { λ r. ⌜ r ≡ verdict-at self ⌝ }
+        ensures { result ≡ verdict_at self }
     {
         match self {
             Stage::Open | Stage::Sealed => None,

@@ -1,19 +1,15 @@
 // The lines that inference lists, each with its reason.
-ghost use mathlib.Core.Path.{_≡_};
-ghost use Prim.Native.Nat.{_<_, _≤_};
-ghost use lib.ListN.{length};
-ghost use Rattle·memory.specs.Runs.{at};
-use crate::finding::opposed_line;
-use crate::finding::source_of;
+ghost use Rattle.std.specs.Prelude.{◌≡◌, ◌<◌, ◌≤◌, length};
+ghost use Rattle.memory.specs.Runs.{at};
+
+use crate::finding::{opposed_line, source_of};
 use crate::words::model_word;
 use case::cases::Case;
 use memory::clocks::Clock;
-use memory::lines::Line;
-use memory::lines::Rule;
+use memory::lines::{Line, Rule};
 use memory::models::Model;
 use memory::records::Record;
-use std::fmt;
-use std::io;
+use std::{fmt, io};
 
 // Why a line follows: its two records, the number of the store that the first reads, or 0 where it reads none, and the mark of the model.
 #[derive(Clone, Copy)]
@@ -50,7 +46,7 @@ impl Reason {
     }
 }
 
-impl fmt::Display for Reason as ReasonDisplay {
+impl fmt::Display for Reason {
     fn fmt<W: fmt::Write>(&self, f: &mut fmt::Formatter<W>) -> fmt::Result {
         let first = self.line.first;
         let second = self.line.second;
@@ -88,7 +84,7 @@ impl fmt::Display for Reason as ReasonDisplay {
 #[derive(Clone, Copy)]
 struct Opposition(Option<usize>);
 
-impl fmt::Display for Opposition as OppositionDisplay {
+impl fmt::Display for Opposition {
     fn fmt<W: fmt::Write>(&self, f: &mut fmt::Formatter<W>) -> fmt::Result {
         match self.0 {
             Some(number) => write!(f, " (opposed to line {number})"),
@@ -99,10 +95,10 @@ impl fmt::Display for Opposition as OppositionDisplay {
 
 // Why a line of two of the records follows, under the model with a mark.
 fn reason_of(records: &[Record], line: Line, model: u8) -> Reason
-    requires first { ⌜ 0 < line .first ⌝ ∗ ⌜ line .first ≤ length (now records) ⌝ }
-    requires second { ⌜ 0 < line .second ⌝ ∗ ⌜ line .second ≤ length (now records) ⌝ }
-    ensures line { λ r. ⌜ r .line ≡ line ⌝ }
-    ensures records { λ r. ⌜ r .first ≡ at (now (records .entry)) (line .first) ⌝ ∗ ⌜ r .second ≡ at (now (records .entry)) (line .second) ⌝ }
+    requires first { (0 < line.first) × (line.first ≤ length records.now) }
+    requires second { (0 < line.second) × (line.second ≤ length records.now) }
+    ensures line { result.line ≡ line }
+    ensures records { (result.first ≡ at records.now line.first) × (result.second ≡ at records.now line.second) }
 {
     let first = records[line.first as usize - 1];
     let second = records[line.second as usize - 1];
@@ -117,11 +113,11 @@ fn reason_of(records: &[Record], line: Line, model: u8) -> Reason
 }
 
 // The lines in the order of their listing, and whether more follow.
-pub fn tell_lines<M: Model, C: Clock>(rt: &LibcRuntime, case: &Case<M, C>) -> io::Result<()> {
+pub fn tell_lines<M: Model, C: Clock>(rt: &HostRuntime, case: &Case<M, C>) -> io::Result<()> {
     let standing = case.standing();
     let count = standing.lines.len();
-    println!(rt, "")?;
-    println!(rt, "Lines listed: {count}")?;
+    println!(rt; "")?;
+    println!(rt; "Lines listed: {count}")?;
     for (i, line) in standing.lines.iter().enumerate() {
         let reason = reason_of(standing.records, *line, M::own_mark());
         let opposition = Opposition(opposed_line(standing.lines, *line));
@@ -130,14 +126,14 @@ pub fn tell_lines<M: Model, C: Clock>(rt: &LibcRuntime, case: &Case<M, C>) -> io
     match standing.stage.verdict() {
         Some(_) => Ok(()),
         None if count == 0 => {
-            println!(rt, "  No line was listed: none follows from the records.")
+            println!(rt; "  No line was listed: none follows from the records.")
         }
-        None => println!(rt, "  No further line follows."),
+        None => println!(rt; "  No further line follows."),
     }
 }
 
 fn tell_line(
-    rt: &LibcRuntime,
+    rt: &HostRuntime,
     number: usize,
     reason: Reason,
     opposition: Opposition,
@@ -145,8 +141,5 @@ fn tell_line(
     let rule = reason.line.rule.number();
     let first = reason.line.first;
     let second = reason.line.second;
-    println!(
-        rt,
-        "  line {number}, rule {rule}: {first} before {second}: {reason}{opposition}"
-    )
+    println!(rt; "  line {number}, rule {rule}: {first} before {second}: {reason}{opposition}")
 }

@@ -1,8 +1,5 @@
 // Tells in plain words what the checker does with a run, from the first byte to the paper.
-ghost use mathlib.Core.Path.{_≡_};
-ghost use mathlib.Core.Bool.{true};
-ghost use Prim.Native.Nat.{_<_};
-ghost use lib.ListN.{length, getD};
+ghost use Rattle.std.specs.Prelude.{◌≡◌, ◌<◌, true, length, slice_index};
 
 mod finding;
 mod lines;
@@ -10,20 +7,11 @@ mod papers;
 mod reports;
 mod words;
 
-use crate::reports::Outcome;
-use crate::reports::tell;
-use crate::reports::tell_input;
-use intake::ROOM;
-use intake::Request;
-use intake::asked;
-use intake::read_input;
+use crate::reports::{Outcome, tell, tell_input};
+use anyhow::anyhow;
+use intake::{ROOM, Request, asked, read_input};
 use memory::limits::INPUT_LIMIT;
-use memory::models::Godson;
-use memory::models::GodsonModel;
-use memory::models::Model;
-use memory::models::Sc;
-use memory::models::ScModel;
-use std::error::AnyError;
+use memory::models::{Godson, Model, Sc};
 
 const USAGE: &str = "explain: tells in plain words what the checker does with a run
 
@@ -43,13 +31,13 @@ refused, where standard input could not be read, and at any other argument.";
 
 // Byte 4 of a run is the mark of its model.
 fn marks_godson(bytes: &[u8]) -> bool
-    ensures yes { λ r. ⌜ (4 < length (now (bytes .entry)) → getD (now (bytes .entry)) 4 0 ≡ 3 → r ≡ true) ⌝ }
-    ensures only { λ r. ⌜ (r ≡ true → (4 < length (now (bytes .entry))) × (getD (now (bytes .entry)) 4 0 ≡ 3)) ⌝ }
+    ensures yes { 4 < length bytes.now → slice_index bytes.now 4 ≡ 3 → result ≡ true }
+    ensures only { result ≡ true → (4 < length bytes.now) × (slice_index bytes.now 4 ≡ 3) }
 {
     bytes.len() > 4 && bytes[4] == Godson::MARK
 }
 
-fn explain(rt: &LibcRuntime) -> Result<Outcome, AnyError> {
+fn explain(rt: &HostRuntime) -> anyhow::Result<Outcome> {
     let mut buffer = [0u8; ROOM];
     let came = read_input(rt, &mut buffer)?;
     let bytes = &buffer[0..came.min(INPUT_LIMIT)];
@@ -61,25 +49,26 @@ fn explain(rt: &LibcRuntime) -> Result<Outcome, AnyError> {
     }
 }
 
-fn run(rt: &LibcRuntime) -> Result<Outcome, AnyError> {
+fn run(rt: &HostRuntime) -> anyhow::Result<Outcome> {
     match asked(rt)? {
         Request::Run => explain(rt),
         Request::Help => {
             rt.println(USAGE)?;
             Ok(Outcome::Answered)
         }
-        Request::Unknown =>
-            Err("unknown argument: the only one is --help, which prints the usage".into()),
+        Request::Unknown => Err(anyhow!(
+            "unknown argument: the only one is --help, which prints the usage"
+        )),
     }
 }
 
 // What goes wrong with the program itself is told on standard error; a refused run has been told by then.
-fn main(rt: LibcRuntime) -> Result<(), AnyError> {
+fn main(rt: HostRuntime) -> anyhow::Result<()> {
     match run(&rt) {
         Ok(Outcome::Answered) => Ok(()),
-        Ok(Outcome::Refused) => Err("the run was refused".into()),
+        Ok(Outcome::Refused) => Err(anyhow!("the run was refused")),
         Err(error) => {
-            eprintln!(rt, "explain: {error}")?;
+            eprintln!(rt; "explain: {error}")?;
             Err(error)
         }
     }

@@ -1,31 +1,22 @@
 // What is told of a case: head, records, and the refusal, or the lines and the verdict.
-ghost use mathlib.Core.Path.{_≡_};
-ghost use Rattle·std.specs.Vec.{made};
-ghost use Rattle·case.specs.State.{opened as begun};
-ghost use Rattle·loading.specs.Loading.{loading};
-ghost use Rattle·explain·specs.Outcomes.{outcome-of};
+ghost use Rattle.std.specs.Prelude.{◌≡◌, IfOk};
+ghost use Rattle.case.specs.State.{opened as begun};
+ghost use Rattle.loading.specs.Loading.{loading};
+ghost use Rattle.explain.specs.Outcomes.{outcome_of};
+
 use crate::lines::tell_lines;
 use crate::papers::tell_writing;
-use crate::words::Operation;
-use crate::words::OperationDisplay;
-use crate::words::clock_word;
-use crate::words::layer_words;
-use crate::words::model_word;
-use crate::words::record_word;
-use crate::words::refusal_meaning;
-use crate::words::refusal_word;
-use crate::words::verdict_meaning;
-use crate::words::verdict_word;
+use crate::words::{
+    Operation, clock_word, layer_words, model_word, record_word, refusal_meaning, refusal_word,
+    verdict_meaning, verdict_word,
+};
 use case::cases::Case;
 use loading::load;
-use memory::clocks::Clock;
-use memory::clocks::GlobalClock;
-use memory::clocks::GlobalTime;
+use memory::clocks::{Clock, GlobalClock};
 use memory::models::Model;
 use memory::records::Record;
 use memory::refusals::Fault;
 use memory::verdicts::verdict_number;
-use std::error::AnyError;
 use std::io;
 
 // How the loading of a run ended.
@@ -36,35 +27,29 @@ pub enum Outcome {
 }
 
 // The heading, and the bytes that count.
-pub fn tell_input(rt: &LibcRuntime, bytes: &[u8], more: bool) -> io::Result<()> {
+pub fn tell_input(rt: &HostRuntime, bytes: &[u8], more: bool) -> io::Result<()> {
     let count = bytes.len();
-    println!(rt, "What the checker does with this run")?;
-    println!(rt, "")?;
-    println!(rt, "Bytes read: {count}")?;
+    println!(rt; "What the checker does with this run")?;
+    println!(rt; "")?;
+    println!(rt; "Bytes read: {count}")?;
     if more {
-        println!(
-            rt,
-            "More bytes came: only the first {count} count, and the rest does not."
-        )?;
+        println!(rt; "More bytes came: only the first {count} count, and the rest does not.")?;
     }
     match bytes.get(4) {
-        Some(mark) => println!(rt, "Byte 4, the mark of the model: {mark}"),
-        None => println!(rt, "There is no byte 4, which would mark the model."),
+        Some(mark) => println!(rt; "Byte 4, the mark of the model: {mark}"),
+        None => println!(rt; "There is no byte 4, which would mark the model."),
     }
 }
 
-fn tell_setting(rt: &LibcRuntime, model: u8, clock: u8) -> io::Result<()> {
+fn tell_setting(rt: &HostRuntime, model: u8, clock: u8) -> io::Result<()> {
     let model_name = model_word(model);
     let clock_name = clock_word(clock);
-    println!(
-        rt,
-        "The case is made under the model {model_name} and the clock {clock_name}."
-    )
+    println!(rt; "The case is made under the model {model_name} and the clock {clock_name}.")
 }
 
 // Loads the bytes into a new case of the model, and tells all that comes of it; a run is refused exactly where loading refuses it.
-pub fn tell<M: Model + Drop>(rt: &LibcRuntime, model: M, bytes: &[u8]) -> Result<Outcome, AnyError>
-    ensures { λ r. ⌜ made r (λ o. o ≡ outcome-of (loading (M·Model .mark) 1 (begun 1) (now (bytes .entry)) .answer)) ⌝ }
+pub fn tell<M: Model + Drop>(rt: &HostRuntime, model: M, bytes: &[u8]) -> anyhow::Result<Outcome>
+    ensures { IfOk result (λ o. o ≡ outcome_of (loading M.Model.mark 1 (begun 1) bytes.now).answer) }
 {
     let mut case = Case::new(rt.alloc(), model, GlobalClock)?;
     tell_setting(rt, M::own_mark(), GlobalClock::own_mark())?;
@@ -84,45 +69,42 @@ pub fn tell<M: Model + Drop>(rt: &LibcRuntime, model: M, bytes: &[u8]) -> Result
 }
 
 // The head and the admitted records.
-fn tell_run<M: Model, C: Clock>(rt: &LibcRuntime, case: &Case<M, C>) -> io::Result<()> {
+fn tell_run<M: Model, C: Clock>(rt: &HostRuntime, case: &Case<M, C>) -> io::Result<()> {
     let standing = case.standing();
     tell_head(rt, standing.processors, M::own_mark(), C::own_mark())?;
     tell_records(rt, standing.records)
 }
 
-fn tell_head(rt: &LibcRuntime, processors: u8, model: u8, clock: u8) -> io::Result<()> {
+fn tell_head(rt: &HostRuntime, processors: u8, model: u8, clock: u8) -> io::Result<()> {
     let model_name = model_word(model);
     let clock_name = clock_word(clock);
-    println!(rt, "")?;
-    println!(rt, "The head passed, and the case was opened:")?;
-    println!(rt, "  processors: {processors}")?;
-    println!(rt, "  model: {model_name} (mark {model})")?;
-    println!(rt, "  clock: {clock_name} (mark {clock})")
+    println!(rt; "")?;
+    println!(rt; "The head passed, and the case was opened:")?;
+    println!(rt; "  processors: {processors}")?;
+    println!(rt; "  model: {model_name} (mark {model})")?;
+    println!(rt; "  clock: {clock_name} (mark {clock})")
 }
 
-fn tell_records(rt: &LibcRuntime, records: &[Record]) -> io::Result<()> {
+fn tell_records(rt: &HostRuntime, records: &[Record]) -> io::Result<()> {
     let count = records.len();
-    println!(rt, "")?;
-    println!(rt, "Records admitted: {count}")?;
+    println!(rt; "")?;
+    println!(rt; "Records admitted: {count}")?;
     for (i, record) in records.iter().enumerate() {
         tell_record(rt, i + 1, *record)?;
     }
     Ok(())
 }
 
-fn tell_record(rt: &LibcRuntime, number: usize, record: Record) -> io::Result<()> {
+fn tell_record(rt: &HostRuntime, number: usize, record: Record) -> io::Result<()> {
     let processor = record.processor;
     let operation = Operation(record);
     let enter = record.enter;
     let commit = record.commit;
-    println!(
-        rt,
-        "  record {number}: P{processor} {operation}, enter {enter}, commit {commit}"
-    )
+    println!(rt; "  record {number}: P{processor} {operation}, enter {enter}, commit {commit}")
 }
 
 fn tell_refused<M: Model, C: Clock>(
-    rt: &LibcRuntime,
+    rt: &HostRuntime,
     case: &Case<M, C>,
     fault: Fault,
 ) -> io::Result<()> {
@@ -135,58 +117,53 @@ fn tell_refused<M: Model, C: Clock>(
     if head_passed {
         let count = case.standing().records.len();
         let noun = record_word(count);
-        println!(rt, "The case stays open with {count} {noun}.")
+        println!(rt; "The case stays open with {count} {noun}.")
     } else {
-        println!(
-            rt,
+        println!(rt;
             "The head did not pass: the case stays as it was, with one processor and no records."
         )
     }
 }
 
-fn tell_fault(rt: &LibcRuntime, fault: Fault) -> io::Result<()> {
+fn tell_fault(rt: &HostRuntime, fault: Fault) -> io::Result<()> {
     let number = fault.refusal.number();
     let word = refusal_word(fault.refusal);
     let layer = fault.layer.number();
     let layer_name = layer_words(fault.layer);
     let place = fault.place;
     let meaning = refusal_meaning(fault.refusal);
-    println!(rt, "")?;
-    println!(rt, "The run was refused:")?;
-    println!(rt, "  refusal: {number}, {word}")?;
-    println!(rt, "  layer: {layer}, {layer_name}")?;
-    println!(rt, "  place: byte {place}")?;
-    println!(rt, "  {meaning}")
+    println!(rt; "")?;
+    println!(rt; "The run was refused:")?;
+    println!(rt; "  refusal: {number}, {word}")?;
+    println!(rt; "  layer: {layer}, {layer_name}")?;
+    println!(rt; "  place: byte {place}")?;
+    println!(rt; "  {meaning}")
 }
 
 // Infers to the end, unless sealing has decided the case, and tells the lines.
-fn tell_inference<M: Model, C: Clock>(rt: &LibcRuntime, case: &mut Case<M, C>) -> io::Result<()> {
-    println!(rt, "")?;
-    println!(
-        rt,
-        "The end was read, no byte follows it, and the case was sealed."
-    )?;
+fn tell_inference<M: Model, C: Clock>(rt: &HostRuntime, case: &mut Case<M, C>) -> io::Result<()> {
+    println!(rt; "")?;
+    println!(rt; "The end was read, no byte follows it, and the case was sealed.")?;
     match case.infer(u64::MAX) {
         Ok(_) => {
-            println!(
-                rt,
+            println!(rt;
                 "Sealing left it undecided, so inference looked for records that must come before others."
             )?;
             tell_lines(rt, case)
         }
-        Err(_) => println!(rt, "Sealing decided it, so nothing was inferred."),
+        Err(_) => println!(rt; "Sealing decided it, so nothing was inferred."),
     }
 }
 
-fn tell_verdict<M: Model, C: Clock>(rt: &LibcRuntime, case: &Case<M, C>) -> io::Result<()> {
+fn tell_verdict<M: Model, C: Clock>(rt: &HostRuntime, case: &Case<M, C>) -> io::Result<()> {
     let standing = case.standing();
     let verdict = standing.stage.verdict();
     let number = verdict_number(verdict);
     let word = verdict_word(number);
     let steps = standing.steps;
     let meaning = verdict_meaning(verdict);
-    println!(rt, "")?;
-    println!(rt, "Verdict: {number}, {word}")?;
-    println!(rt, "  steps: {steps}")?;
-    println!(rt, "  {meaning}")
+    println!(rt; "")?;
+    println!(rt; "Verdict: {number}, {word}")?;
+    println!(rt; "  steps: {steps}")?;
+    println!(rt; "  {meaning}")
 }

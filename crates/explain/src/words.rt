@@ -1,8 +1,7 @@
 // Words for what the checker has numbers and marks for.
 use memory::kinds::Kind;
 use memory::records::Record;
-use memory::refusals::Layer;
-use memory::refusals::Refusal;
+use memory::refusals::{Layer, Refusal};
 use memory::verdicts::Verdict;
 use std::fmt;
 
@@ -10,7 +9,7 @@ use std::fmt;
 #[derive(Clone, Copy)]
 pub struct Operation(pub Record);
 
-pub impl fmt::Display for Operation as OperationDisplay {
+impl fmt::Display for Operation {
     fn fmt<W: fmt::Write>(&self, f: &mut fmt::Formatter<W>) -> fmt::Result {
         let address = self.0.address;
         let value = self.0.value;

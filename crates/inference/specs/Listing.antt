@@ -1,14 +1,9 @@
 -- Inferring: next lines listed one by one, up to a number, to the last, or to one that is opposed to a listed one. Assumes nothing.
-use mathlib.Core.Path.{_≡_}
-use mathlib.Core.Bool.{Bool, true, false}
-use mathlib.Core.List.{List, [], _∷_, _++_}
-use Prim.Native.Nat.{ℕ, zero, suc, _<_}
-use Rattle·std.specs.declared.option.Option.{Option}
-use Rattle·std.specs.declared.option.Option.the-variants.{Some, None}
-use Rattle·memory.specs.declared.lines.Line.{Line}
-use Rattle·memory.specs.Runs.{Run}
-use Rattle·inference·specs.Next.{Next, next}
-use Rattle·inference·specs.Worth.{opposes}
+use Rattle.std.specs.Prelude.{◌≡◌, ℕ, zero, suc, ◌<◌, Bool, true, false, List, [], ◌∷◌, ◌++◌, Some, None, Option}
+use Rattle.memory.specs.declared.lines.Line.{Line}
+use Rattle.memory.specs.Runs.{Run}
+use Rattle.inference.specs.Next.{Next, next}
+use Rattle.inference.specs.Worth.{opposes}
 
 -- how many lines were listed, the list after, and whether its last line is opposed to one before it
 pub record Listing : Type 0 where
@@ -25,24 +20,24 @@ pub data Lists (R : Run) : ℕ → List Line → Listing → Type 0 where
   -- the next line is opposed to a listed one: it is listed, and ends it
   stop : {k : ℕ} {ls : List Line} (l : Line) → Next R ls (Some l) → opposes ls l ≡ true → Lists R (suc k) ls (record { count = 1; lines = ls ++ l ∷ []; opposed = true })
   -- it is opposed to none: it is listed, and inferring goes on
-  onward : {k : ℕ} {ls : List Line} (l : Line) (r : Listing) → Next R ls (Some l) → opposes ls l ≡ false → Lists R k (ls ++ l ∷ []) r → Lists R (suc k) ls (record { count = suc (r .count); lines = r .lines; opposed = r .opposed })
+  onward : {k : ℕ} {ls : List Line} (l : Line) (r : Listing) → Next R ls (Some l) → opposes ls l ≡ false → Lists R k (ls ++ l ∷ []) r → Lists R (suc k) ls (record { count = suc r.count; lines = r.lines; opposed = r.opposed })
 
 -- fewer lines than asked for, and none opposed: no line follows
 abbrev pub Out : Run → ℕ → Listing → Type 0
-Out R k r = r .opposed ≡ false → r .count < k → Next R (r .lines) None
+Out R k r = r.opposed ≡ false → r.count < k → Next R r.lines None
 
 -- the same, computed
-abbrev pub one-more : Listing → Listing
-one-more r = record { count = suc (r .count); lines = r .lines; opposed = r .opposed }
+abbrev pub one_more : Listing → Listing
+one_more r = record { count = suc r.count; lines = r.lines; opposed = r.opposed }
 
-abbrev pub list-by : Bool → List Line → Line → (List Line → Listing) → Listing
-list-by true ls l rest = record { count = 1; lines = ls ++ l ∷ []; opposed = true }
-list-by false ls l rest = one-more (rest (ls ++ l ∷ []))
+abbrev pub list_by : Bool → List Line → Line → (List Line → Listing) → Listing
+list_by true ls l rest = record { count = 1; lines = ls ++ l ∷ []; opposed = true }
+list_by false ls l rest = one_more (rest (ls ++ l ∷ []))
 
-abbrev pub list-next : Option Line → List Line → (List Line → Listing) → Listing
-list-next None ls rest = record { count = 0; lines = ls; opposed = false }
-list-next (Some l) ls rest = list-by (opposes ls l) ls l rest
+abbrev pub list_next : Option Line → List Line → (List Line → Listing) → Listing
+list_next None ls rest = record { count = 0; lines = ls; opposed = false }
+list_next (Some l) ls rest = list_by (opposes ls l) ls l rest
 
-unfoldable pub list-lines : Run → ℕ → List Line → Listing
-list-lines R zero ls = record { count = 0; lines = ls; opposed = false }
-list-lines R (suc k) ls = list-next (next R ls) ls (λ more. list-lines R k more)
+unfoldable pub list_lines : Run → ℕ → List Line → Listing
+list_lines R zero ls = record { count = 0; lines = ls; opposed = false }
+list_lines R (suc k) ls = list_next (next R ls) ls (λ more. list_lines R k more)

@@ -1,48 +1,39 @@
 -- What inference reasons from, as a run and a list of lines, and the list that it makes.
-use mathlib.Core.Path.{_≡_}
-use mathlib.Core.Bool.{Bool}
-use mathlib.Core.List.{List, [], _∷_, _++_}
-use Prim.Native.Nat.{ℕ, _≤_, _<_}
-use lib.ListN.{length}
-use Rattle·std.specs.Of.Vec.{vec-items}
-use Rattle·std.specs.declared.option.Option.{Option}
-use Rattle·std.specs.declared.option.Option.the-variants.{Some, None}
-use Rattle·std.specs.declared.result.Result.{Result}
-use Rattle·std.specs.declared.result.Result.the-variants.{Ok, Err}
-use Rattle·memory.specs.declared.kinds.Kind.{Kind}
-use Rattle·memory.specs.declared.lines.Line.{Line}
-use Rattle·memory.specs.declared.records.Record.{Record}
-use Rattle·memory.specs.declared.refusals.Refusal.{Refusal}
-use Rattle·memory.specs.declared.refusals.Refusal.the-variants.{Full}
-use Rattle·memory.specs.Limits.{most-records}
-use Rattle·memory.specs.Runs.{Setting, setting, Run, run-of}
-use Rattle·inference·specs.declared.lines.Lines.{Lines}
-use Rattle·inference·specs.declared.lines.Listed.{Listed}
-use Rattle·inference·specs.declared.premises.Premises.{Premises}
-use Rattle·inference·specs.Listing.{Listing, list-lines}
-use Rattle·inference·specs.Worth.{opposes}
+use Rattle.std.specs.Prelude.{◌≡◌, ℕ, ◌<◌, ◌≤◌, Bool, List, [], ◌∷◌, ◌++◌, length, Some, None, Ok, Err, vec_items, Option, Result}
+use Rattle.memory.specs.declared.kinds.Kind.{Kind}
+use Rattle.memory.specs.declared.lines.Line.{Line}
+use Rattle.memory.specs.declared.records.Record.{Record}
+use Rattle.memory.specs.declared.refusals.Refusal.{Refusal}
+use Rattle.memory.specs.declared.refusals.Refusal.TheVariants.{Full}
+use Rattle.memory.specs.Limits.{most_records}
+use Rattle.memory.specs.Runs.{Setting, setting, Run, run_of}
+use Rattle.inference.specs.declared.lines.Lines.{Lines}
+use Rattle.inference.specs.declared.lines.Listed.{Listed}
+use Rattle.inference.specs.declared.premises.Premises.{Premises}
+use Rattle.inference.specs.Listing.{Listing, list_lines}
+use Rattle.inference.specs.Worth.{opposes}
 
 module _ {M C : Type 0} where
-  abbrev pub records-in : Premises M C → List Record
-  records-in p = p .records .now
+  abbrev pub records_in : Premises M C → List Record
+  records_in p = p.records.now
 
-  abbrev pub lines-in : Premises M C → List Line
-  lines-in p = p .lines .now
+  abbrev pub lines_in : Premises M C → List Line
+  lines_in p = p.lines.now
 
   -- a is the number of one of the records
   abbrev pub Numbers : Premises M C → ℕ → Type 0
-  Numbers p a = (0 < a) × (a ≤ length (records-in p))
+  Numbers p a = (0 < a) × (a ≤ length (records_in p))
 
   -- the model and the clock, by what models and clocks of their kinds say, and by their marks
-  abbrev pub setting-in : (M → Kind → Kind → Bool → Bool) → (C → ℕ → ℕ → ℕ → ℕ → Bool) → ℕ → ℕ → Premises M C → Setting
-  setting-in orders earlier m c p = setting (orders (p .model .now)) (earlier (p .clock .now)) m c
+  abbrev pub setting_in : (M → Kind → Kind → Bool → Bool) → (C → ℕ → ℕ → ℕ → ℕ → Bool) → ℕ → ℕ → Premises M C → Setting
+  setting_in orders earlier m c p = setting (orders p.model.now) (earlier p.clock.now) m c
 
   -- the run that the records make under them
-  abbrev pub run-in : (M → Kind → Kind → Bool → Bool) → (C → ℕ → ℕ → ℕ → ℕ → Bool) → ℕ → ℕ → Premises M C → Run
-  run-in orders earlier m c p = run-of (setting-in orders earlier m c p) (records-in p)
+  abbrev pub run_in : (M → Kind → Kind → Bool → Bool) → (C → ℕ → ℕ → ℕ → ℕ → Bool) → ℕ → ℕ → Premises M C → Run
+  run_in orders earlier m c p = run_of (setting_in orders earlier m c p) (records_in p)
 
-abbrev pub lines-of : Lines → List Line
-lines-of l = vec-items (l .items)
+abbrev pub lines_of : Lines → List Line
+lines_of l = vec_items l.items
 
 -- the next line was listed, with the answer whether it is opposed to one before it; or there is none, and the list is as before
 abbrev pub Took : Option Line → List Line → List Line → Option Bool → Type 0
@@ -51,9 +42,9 @@ Took (Some l) before after r = (r ≡ Some (opposes before l)) × (after ≡ bef
 
 -- what inferring answered, with the list after
 abbrev pub listing : Listed → List Line → Listing
-listing r after = record { count = r .count; lines = after; opposed = r .opposed }
+listing r after = record { count = r.count; lines = after; opposed = r.opposed }
 
 -- inferring up to k lines answers and leaves what the definition says; it is refused where there are more records than a run may have, and the list is as before
 abbrev pub Infers : Run → ℕ → List Line → List Line → Result Listed Refusal → Type 0
-Infers R k before after (Ok r) = (R .size ≤ most-records) × (listing r after ≡ list-lines R k before)
-Infers R k before after (Err e) = (most-records < R .size) × (e ≡ Full) × (after ≡ before)
+Infers R k before after (Ok r) = (R.size ≤ most_records) × (listing r after ≡ list_lines R k before)
+Infers R k before after (Err e) = (most_records < R.size) × (e ≡ Full) × (after ≡ before)

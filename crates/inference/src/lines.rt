@@ -1,10 +1,8 @@
 // A list of lines, with room for every pair of two records.
-ghost use mathlib.Core.Bool.{true};
-ghost use mathlib.Core.Path.{_≡_};
-ghost use Prim.Native.Nat.{_≤_};
-ghost use Rattle·std.specs.Of.Vec.{vec-cap, vec-items};
-ghost use Rattle·memory.specs.Limits.{most-lines, most-records};
-ghost use Rattle·inference·specs.Paired.{paired};
+ghost use Rattle.std.specs.Prelude.{◌≡◌, ◌≤◌, true, vec_capacity};
+ghost use Rattle.memory.specs.Limits.{most_lines, most_records};
+ghost use Rattle.inference.specs.Paired.{paired};
+
 use memory::lines::Line;
 
 mod infer;
@@ -13,8 +11,8 @@ mod infer;
 #[derive(Drop)]
 pub struct Lines {
     items: Vec<Line>,
-    ghost room: { most-lines ≤ vec-cap items },
-    ghost pairs: { paired most-records (vec-items items) ≡ true },
+    ghost room: { most_lines ≤ vec_capacity items },
+    ghost pairs: { paired most_records items.items ≡ true },
 }
 
 // How many lines were listed, and whether the last of them is opposed to one before it.

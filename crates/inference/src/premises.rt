@@ -1,7 +1,7 @@
 // What inference reasons from.
-ghost use Prim.Native.Nat.{_≤_};
-ghost use lib.ListN.{length};
-ghost use Rattle·memory.specs.Limits.{most-records};
+ghost use Rattle.std.specs.Prelude.{◌≤◌, length};
+ghost use Rattle.memory.specs.Limits.{most_records};
+
 use memory::clocks::Clock;
 use memory::lines::Line;
 use memory::models::Model;
@@ -18,5 +18,5 @@ pub struct Premises<'a, M: Model, C: Clock> {
     clock: &'a C,
     records: &'a [Record],
     lines: &'a [Line],
-    ghost few: { length (records .now) ≤ most-records },
+    ghost few: { length records.now ≤ most_records },
 }

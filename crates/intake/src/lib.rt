@@ -1,11 +1,9 @@
 // What both programs take: their arguments, and the bytes of a run on standard input.
-ghost use Prim.Native.Nat.{_≤_};
-ghost use Rattle·std.specs.Vec.{made};
+ghost use Rattle.std.specs.Prelude.{◌≤◌, IfOk};
+
 use memory::limits::INPUT_LIMIT;
-use std::env;
-use std::error::AnyError;
-use std::io;
 use std::io::Read;
+use std::{env, io};
 
 // One byte more than count, to see whether there are more.
 pub const ROOM: usize = INPUT_LIMIT + 1;
@@ -18,15 +16,15 @@ pub enum Request {
 }
 
 // An error that says what could not be read.
-fn unreadable(rt: &LibcRuntime, what: &str, error: io::Error) -> AnyError {
-    match format!(rt.alloc(), "{what} cannot be read: {error}") {
+fn unreadable(rt: &HostRuntime, what: &str, error: io::Error) -> anyhow::Error {
+    match format!(in rt.alloc(); "{what} cannot be read: {error}") {
         Ok(text) => text.into(),
         Err(memory) => memory.into(),
     }
 }
 
 // What the arguments after the program's own name ask for.
-pub fn asked(rt: &LibcRuntime) -> Result<Request, AnyError> {
+pub fn asked(rt: &HostRuntime) -> anyhow::Result<Request> {
     let mut words = match env::args(rt) {
         Ok(words) => words,
         Err(error) => return Err(unreadable(rt, "an argument", error)),
@@ -42,8 +40,8 @@ pub fn asked(rt: &LibcRuntime) -> Result<Request, AnyError> {
 }
 
 // How many bytes came, up to the room.
-fn fill(rt: &LibcRuntime, buffer: &mut [u8; ROOM]) -> io::Result<usize>
-    ensures { λ r. ⌜ made r (λ n. n ≤ 4097) ⌝ }
+fn fill(rt: &HostRuntime, buffer: &mut [u8; ROOM]) -> io::Result<usize>
+    ensures { IfOk result (λ n. n ≤ 4097) }
 {
     let mut input = rt.stdin();
     let mut n = 0usize;
@@ -58,8 +56,8 @@ fn fill(rt: &LibcRuntime, buffer: &mut [u8; ROOM]) -> io::Result<usize>
 }
 
 // The same, with an error for the user.
-pub fn read_input(rt: &LibcRuntime, buffer: &mut [u8; ROOM]) -> Result<usize, AnyError>
-    ensures { λ r. ⌜ made r (λ n. n ≤ 4097) ⌝ }
+pub fn read_input(rt: &HostRuntime, buffer: &mut [u8; ROOM]) -> anyhow::Result<usize>
+    ensures { IfOk result (λ n. n ≤ 4097) }
 {
     match fill(rt, buffer) {
         Ok(n) => Ok(n),

@@ -1,24 +1,16 @@
 -- What the private parts of loading promise one another: a field, the fields, the head. Assumes nothing.
-use mathlib.Core.Path.{_≡_}
-use mathlib.Core.Bool.{Bool, true, false}
-use mathlib.Core.List.{List, [], _++_}
-use Prim.Native.Nat.{ℕ, _+_, _≤_}
-use lib.ListN.{length, drop}
-use Rattle·std.specs.declared.option.Option.{Option}
-use Rattle·std.specs.declared.option.Option.the-variants.{Some, None}
-use Rattle·std.specs.declared.result.Result.{Result}
-use Rattle·std.specs.declared.result.Result.the-variants.{Ok, Err}
-use Rattle·memory.specs.declared.records.Record.{Record}
-use Rattle·memory.specs.declared.refusals.Refusal.{Refusal}
-use Rattle·wire.specs.declared.faults.RunFault.{RunFault}
-use Rattle·wire.specs.declared.faults.RunFault.the-variants.{Content}
-use Rattle·wire.specs.declared.fields.Text.the-variants.{Run}
-use Rattle·wire.specs.Bytes.{field, all-of, record-field, run-head}
-use Rattle·wire.specs.Fields.{pieces, tag-of, Shown}
-use Rattle·wire.specs.Tags.{run-end-tag}
-use Rattle·case.specs.declared.stages.Stage.the-variants.{Open}
-use Rattle·case.specs.State.{State, opened, with-record}
-use Rattle·loading·specs.Loading.{Loaded, ended-as, stopped, load-sort, load-fields, go-on, loading, place-of}
+use Rattle.std.specs.Prelude.{◌≡◌, ℕ, ◌+◌, ◌≤◌, Bool, true, false, List, [], ◌++◌, length, drop, Some, None, Ok, Err, Option, Result}
+use Rattle.memory.specs.declared.records.Record.{Record}
+use Rattle.memory.specs.declared.refusals.Refusal.{Refusal}
+use Rattle.wire.specs.declared.faults.RunFault.{RunFault}
+use Rattle.wire.specs.declared.faults.RunFault.TheVariants.{Content}
+use Rattle.wire.specs.declared.fields.Text.TheVariants.{Run}
+use Rattle.wire.specs.Bytes.{field, all_of, record_field, run_head}
+use Rattle.wire.specs.Fields.{pieces, tag_of, Shown}
+use Rattle.wire.specs.Tags.{run_end_tag}
+use Rattle.case.specs.declared.stages.Stage.TheVariants.{Open}
+use Rattle.case.specs.State.{State, opened, with_record}
+use Rattle.loading.specs.Loading.{Loaded, ended_as, stopped, load_sort, load_fields, go_on, loading, place_of}
 
 -- whether the next field follows, as the reading of one field answers
 pub data Went : Type 0 where
@@ -27,54 +19,54 @@ pub data Went : Type 0 where
 
 -- one field behind the head was read by a case that was s and is t after it
 abbrev pub Turned : State → State → Shown → Went → Type 0
-Turned s t f onward = (rest : State → Loaded) → load-sort (f .sort) f s rest ≡ rest t
-Turned s t f ended = (rest : State → Loaded) → load-sort (f .sort) f s rest ≡ ended-as t (Ok (f .place + 3))
-Turned s t f (fell e) = (rest : State → Loaded) → load-sort (f .sort) f s rest ≡ stopped t e
+Turned s t f onward = (rest : State → Loaded) → load_sort f.sort f s rest ≡ rest t
+Turned s t f ended = (rest : State → Loaded) → load_sort f.sort f s rest ≡ ended_as t (Ok (f.place + 3))
+Turned s t f (fell e) = (rest : State → Loaded) → load_sort f.sort f s rest ≡ stopped t e
 
 -- the bytes of that field are those of the record that the case has now, or of the end; a fault adds none
 abbrev pub Gained : State → State → Shown → Went → Type 0
-Gained s t f onward = (r : Record) × (t ≡ with-record s r) × (field (tag-of Run (f .sort)) (f .content) ≡ record-field r)
-Gained s t f ended = (t ≡ s) × (field (tag-of Run (f .sort)) (f .content) ≡ field run-end-tag [])
-Gained s t f (fell e) = (t ≡ s) × (place-of e ≡ f .place)
+Gained s t f onward = (r : Record) × (t ≡ with_record s r) × (field (tag_of Run f.sort) f.content ≡ record_field r)
+Gained s t f ended = (t ≡ s) × (field (tag_of Run f.sort) f.content ≡ field run_end_tag [])
+Gained s t f (fell e) = (t ≡ s) × (place_of e ≡ f.place)
 
 -- as the code answers it: true where the next field follows, false at the end
-abbrev pub went-field : Result Bool RunFault → Went
-went-field (Ok true) = onward
-went-field (Ok false) = ended
-went-field (Err e) = fell e
+abbrev pub went_field : Result Bool RunFault → Went
+went_field (Ok true) = onward
+went_field (Ok false) = ended
+went_field (Err e) = fell e
 
 -- a case that was s and is t has gained the records that the bytes from a place on say, before those that are left, and nothing else that counts
 pub record Walked (bs : List ℕ) (from : ℕ) (s : State) (left : List ℕ) (t : State) : Type 0 where
   pub more : List Record
-  pub records : t .records ≡ s .records ++ more
-  pub processors : t .processors ≡ s .processors
-  pub stage : t .stage ≡ s .stage
-  pub lines : t .lines ≡ s .lines
-  pub bytes : drop from bs ≡ all-of record-field more ++ left
+  pub records : t.records ≡ s.records ++ more
+  pub processors : t.processors ≡ s.processors
+  pub stage : t.stage ≡ s.stage
+  pub lines : t.lines ≡ s.lines
+  pub bytes : drop from bs ≡ all_of record_field more ++ left
 
 -- what is left where the fields ended: the end field and what stands behind it, or the field at fault
-abbrev pub left-by : Result (Unit {0}) RunFault → ℕ → List ℕ → List ℕ
-left-by (Ok u) to bs = field run-end-tag [] ++ drop to bs
-left-by (Err e) to bs = drop (place-of e) bs
+abbrev pub left_by : Result (Unit {0}) RunFault → ℕ → List ℕ → List ℕ
+left_by (Ok u) to bs = field run_end_tag [] ++ drop to bs
+left_by (Err e) to bs = drop (place_of e) bs
 
-abbrev pub told-by : Result (Unit {0}) RunFault → ℕ → Result ℕ RunFault
-told-by (Ok u) to = Ok to
-told-by (Err e) to = Err e
+abbrev pub told_by : Result (Unit {0}) RunFault → ℕ → Result ℕ RunFault
+told_by (Ok u) to = Ok to
+told_by (Err e) to = Err e
 
-abbrev pub Not-before : ℕ → Result (Unit {0}) RunFault → Type 0
-Not-before from (Ok u) = Unit {0}
-Not-before from (Err e) = from ≤ place-of e
+abbrev pub NotBefore : ℕ → Result (Unit {0}) RunFault → Type 0
+NotBefore from (Ok u) = Unit {0}
+NotBefore from (Err e) = from ≤ place_of e
 
 -- what the head answers: it passed, and the case is opened; or it is refused, and the case is as it was
-abbrev pub begun-as : Option Refusal → Result (Unit {0}) RunFault
-begun-as None = Ok tt
-begun-as (Some r) = Err (Content r 0)
+abbrev pub begun_as : Option Refusal → Result (Unit {0}) RunFault
+begun_as None = Ok tt
+begun_as (Some r) = Err (Content r 0)
 
-abbrev pub begun-state : Option Refusal → ℕ → State → State
-begun-state None p s = opened p
-begun-state (Some r) p s = s
+abbrev pub begun_state : Option Refusal → ℕ → State → State
+begun_state None p s = opened p
+begun_state (Some r) p s = s
 
 abbrev pub Headed : ℕ → ℕ → State → List ℕ → State → ℕ → Result (Unit {0}) RunFault → Type 0
 Headed model clock s bs t at (Ok u) =
-    (loading model clock s bs ≡ go-on (length bs) (load-fields t 6 (pieces (drop 6 bs)))) × (at ≡ 6) × (t .records ≡ []) × (drop 0 bs ≡ run-head (t .processors) model clock ++ drop 6 bs) × (t .stage ≡ Open) × (t .lines ≡ [])
-Headed model clock s bs t at (Err e) = (loading model clock s bs ≡ record { answer = Err e; state = s }) × (t ≡ s) × (place-of e ≡ 0)
+    (loading model clock s bs ≡ go_on (length bs) (load_fields t 6 (pieces (drop 6 bs)))) × (at ≡ 6) × (t.records ≡ []) × (drop 0 bs ≡ run_head t.processors model clock ++ drop 6 bs) × (t.stage ≡ Open) × (t.lines ≡ [])
+Headed model clock s bs t at (Err e) = (loading model clock s bs ≡ record { answer = Err e; state = s }) × (t ≡ s) × (place_of e ≡ 0)

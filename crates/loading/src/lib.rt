@@ -1,37 +1,31 @@
 // Loading a run from its bytes into a case.
-ghost use mathlib.Core.List.{[]};
-ghost use mathlib.Core.Path.{_≡_};
-ghost use Rattle·std.specs.Vec.{made};
-ghost use Rattle·memory.specs.Runs.{setting, run-of};
-ghost use Rattle·wire.specs.Fields.{record-field};
-ghost use Rattle·wire.specs.Seen.{shown, part-of, left};
-ghost use Rattle·wire.specs.declared.fields.Text.the-variants.{Run};
-ghost use Rattle·case.specs.Calls.{Answer-claims};
-ghost use Rattle·case.specs.State.{verdict-at};
-ghost use Rattle·case.specs.Views.{view};
-ghost use Rattle·case.specs.declared.stages.Stage.the-variants.{Open};
-ghost use Rattle·loading·specs.Loading.{load-fields, ended-as, head-refusal, loading, Kept};
-ghost use Rattle·loading·specs.Parts.{Turned, Gained, went-field, told-by, left-by, Walked, Not-before, begun-as, begun-state, Headed};
+ghost use Rattle.std.specs.Prelude.{◌≡◌, [], IfOk, OnOk};
+ghost use Rattle.memory.specs.Runs.{setting, run_of};
+ghost use Rattle.wire.specs.Fields.{record_field};
+ghost use Rattle.wire.specs.Seen.{shown, part_of, left};
+ghost use Rattle.wire.specs.declared.fields.Text.TheVariants.{Run};
+ghost use Rattle.case.specs.Calls.{AnswerClaims};
+ghost use Rattle.case.specs.State.{verdict_at};
+ghost use Rattle.case.specs.Views.{view};
+ghost use Rattle.case.specs.declared.stages.Stage.TheVariants.{Open};
+ghost use Rattle.loading.specs.Loading.{load_fields, ended_as, head_refusal, loading, Kept};
+ghost use Rattle.loading.specs.Parts.{Turned, Gained, went_field, told_by, left_by, Walked, NotBefore, begun_as, begun_state, Headed};
+
 use case::cases::Case;
 use memory::clocks::Clock;
 use memory::models::Model;
 use memory::refusals::Refusal;
 use memory::verdicts::Verdict;
-use wire::faults::ByteFault;
-use wire::faults::RunFault;
-use wire::faults::RunFromBytes;
-use wire::fields::Field;
-use wire::fields::Part;
-use wire::fields::Reader;
-use wire::fields::RunHead;
+use wire::faults::{ByteFault, RunFault};
+use wire::fields::{Field, Part, Reader, RunHead};
 
 // A record field: its entry is admitted, and the next field follows.
 fn load_record<M: Model, C: Clock>(case: &mut Case<M, C>, part: Part<'_>) -> Result<bool, RunFault>
-    requires { ⌜ view (now case) .stage ≡ Open ⌝ }
-    ensures turned { λ r. ⌜ Turned (view (now (case .entry))) (view (now (case .exit))) (part-of record-field (part .entry)) (went-field r) ⌝ }
-    ensures gained { λ r. ⌜ Gained (view (now (case .entry))) (view (now (case .exit))) (part-of record-field (part .entry)) (went-field r) ⌝ }
-    ensures model { λ _. ⌜ now (case .exit) .model ≡ now (case .entry) .model ⌝ }
-    ensures clock { λ _. ⌜ now (case .exit) .clock ≡ now (case .entry) .clock ⌝ }
+    requires { (view case.old).stage ≡ Open }
+    ensures turned { Turned (view case.old) (view case.new) (part_of record_field part.entry) (went_field result) }
+    ensures gained { Gained (view case.old) (view case.new) (part_of record_field part.entry) (went_field result) }
+    ensures model { case.new.model ≡ case.old.model }
+    ensures clock { case.new.clock ≡ case.old.clock }
 {
     let entry = part.entry()?;
     match case.admit(entry) {
@@ -45,17 +39,18 @@ fn load_record<M: Model, C: Clock>(case: &mut Case<M, C>, part: Part<'_>) -> Res
 
 // A field behind the head: true where a record was admitted, false at the end.
 fn load_field<M: Model, C: Clock>(case: &mut Case<M, C>, field: Field<'_>) -> Result<bool, RunFault>
-    requires { ⌜ view (now case) .stage ≡ Open ⌝ }
-    ensures turned { λ r. ⌜ Turned (view (now (case .entry))) (view (now (case .exit))) (shown (field .entry)) (went-field r) ⌝ }
-    ensures gained { λ r. ⌜ Gained (view (now (case .entry))) (view (now (case .exit))) (shown (field .entry)) (went-field r) ⌝ }
-    ensures model { λ _. ⌜ now (case .exit) .model ≡ now (case .entry) .model ⌝ }
-    ensures clock { λ _. ⌜ now (case .exit) .clock ≡ now (case .entry) .clock ⌝ }
+    requires { (view case.old).stage ≡ Open }
+    ensures turned { Turned (view case.old) (view case.new) (shown field.entry) (went_field result) }
+    ensures gained { Gained (view case.old) (view case.new) (shown field.entry) (went_field result) }
+    ensures model { case.new.model ≡ case.old.model }
+    ensures clock { case.new.clock ≡ case.old.clock }
 {
     match field {
         Field::Record(part) => load_record(case, part),
         Field::End { .. } => Ok(false),
-        Field::Head(part) | Field::Line(part) | Field::Order(part) | Field::Orphan(part) =>
-            Err(RunFault::Bytes(ByteFault { place: part.place })),
+        Field::Head(part) | Field::Line(part) | Field::Order(part) | Field::Orphan(part) => Err(
+            RunFault::Bytes(ByteFault { place: part.place }),
+        ),
     }
 }
 
@@ -64,14 +59,14 @@ fn load_fields<M: Model, C: Clock>(
     case: &mut Case<M, C>,
     reader: &mut Reader<'_>,
 ) -> Result<(), RunFault>
-    requires open { ⌜ view (now case) .stage ≡ Open ⌝ }
-    requires text { ⌜ now reader .text ≡ Run ⌝ }
-    ensures result { λ r. ⌜ load-fields (view (now (case .entry))) (now (reader .entry) .at) (left (now (reader .entry))) ≡ ended-as (view (now (case .exit))) (told-by r (now (reader .exit) .at)) ⌝ }
-    ensures walked { λ r. ⌜ Walked (now (now (reader .entry) .bytes)) (now (reader .entry) .at) (view (now (case .entry))) (left-by r (now (reader .exit) .at) (now (now (reader .entry) .bytes))) (view (now (case .exit))) ⌝ }
-    ensures place { λ r. ⌜ Not-before (now (reader .entry) .at) r ⌝ }
-    ensures bytes { λ _. ⌜ now (reader .exit) .bytes ≡ now (reader .entry) .bytes ⌝ }
-    ensures model { λ _. ⌜ now (case .exit) .model ≡ now (case .entry) .model ⌝ }
-    ensures clock { λ _. ⌜ now (case .exit) .clock ≡ now (case .entry) .clock ⌝ }
+    requires open { (view case.old).stage ≡ Open }
+    requires text { reader.old.text ≡ Run }
+    ensures result { load_fields (view case.old) reader.old.at (left reader.old) ≡ ended_as (view case.new) (told_by result reader.new.at) }
+    ensures walked { Walked reader.old.bytes.now reader.old.at (view case.old) (left_by result reader.new.at reader.old.bytes.now) (view case.new) }
+    ensures place { NotBefore reader.old.at result }
+    ensures bytes { reader.new.bytes ≡ reader.old.bytes }
+    ensures model { case.new.model ≡ case.old.model }
+    ensures clock { case.new.clock ≡ case.old.clock }
 {
     loop {
         let field = reader.next()?;
@@ -84,10 +79,10 @@ fn load_fields<M: Model, C: Clock>(
 
 // The marks of the head, then its number of processors; the case then begins anew.
 fn begin<M: Model, C: Clock>(case: &mut Case<M, C>, head: RunHead) -> Result<(), RunFault>
-    ensures answer { λ r. ⌜ r ≡ begun-as (head-refusal (M·Model .mark) (C·Clock .mark) head) ⌝ }
-    ensures state { λ _. ⌜ view (now (case .exit)) ≡ begun-state (head-refusal (M·Model .mark) (C·Clock .mark) head) (head .processors) (view (now (case .entry))) ⌝ }
-    ensures model { λ _. ⌜ now (case .exit) .model ≡ now (case .entry) .model ⌝ }
-    ensures clock { λ _. ⌜ now (case .exit) .clock ≡ now (case .entry) .clock ⌝ }
+    ensures answer { result ≡ begun_as (head_refusal M.Model.mark C.Clock.mark head) }
+    ensures state { view case.new ≡ begun_state (head_refusal M.Model.mark C.Clock.mark head) head.processors (view case.old) }
+    ensures model { case.new.model ≡ case.old.model }
+    ensures clock { case.new.clock ≡ case.old.clock }
 {
     if !(head.model == M::own_mark() && head.clock == C::own_mark()) {
         return Err(RunFault::Content {
@@ -109,13 +104,13 @@ fn load_head<M: Model, C: Clock>(
     case: &mut Case<M, C>,
     reader: &mut Reader<'_>,
 ) -> Result<(), RunFault>
-    requires text { ⌜ now reader .text ≡ Run ⌝ }
-    requires start { ⌜ now reader .at ≡ 0 ⌝ }
-    ensures headed { λ r. ⌜ Headed (M·Model .mark) (C·Clock .mark) (view (now (case .entry))) (now (now (reader .entry) .bytes)) (view (now (case .exit))) (now (reader .exit) .at) r ⌝ }
-    ensures bytes { λ _. ⌜ now (reader .exit) .bytes ≡ now (reader .entry) .bytes ⌝ }
-    ensures text { λ _. ⌜ now (reader .exit) .text ≡ now (reader .entry) .text ⌝ }
-    ensures model { λ _. ⌜ now (case .exit) .model ≡ now (case .entry) .model ⌝ }
-    ensures clock { λ _. ⌜ now (case .exit) .clock ≡ now (case .entry) .clock ⌝ }
+    requires text { reader.old.text ≡ Run }
+    requires start { reader.old.at ≡ 0 }
+    ensures headed { Headed M.Model.mark C.Clock.mark (view case.old) reader.old.bytes.now (view case.new) reader.new.at result }
+    ensures bytes { reader.new.bytes ≡ reader.old.bytes }
+    ensures text { reader.new.text ≡ reader.old.text }
+    ensures model { case.new.model ≡ case.old.model }
+    ensures clock { case.new.clock ≡ case.old.clock }
 {
     let Field::Head(part) = reader.next()? else {
         return Err(RunFault::Bytes(ByteFault { place: 0 }));
@@ -131,14 +126,14 @@ pub fn load<M: Model, C: Clock>(
     case: &mut Case<M, C>,
     bytes: &[u8],
 ) -> Result<Option<Verdict>, RunFault>
-    ensures answer { λ r. ⌜ r ≡ loading (M·Model .mark) (C·Clock .mark) (view (now (case .entry))) (now (bytes .entry)) .answer ⌝ }
-    ensures state { λ _. ⌜ view (now (case .exit)) ≡ loading (M·Model .mark) (C·Clock .mark) (view (now (case .entry))) (now (bytes .entry)) .state ⌝ }
-    ensures kept { λ r. ⌜ Kept (M·Model .mark) (C·Clock .mark) (view (now (case .entry))) (view (now (case .exit))) (now (bytes .entry)) r ⌝ }
-    ensures claims { λ r. ⌜ Answer-claims (run-of (setting (M·Model .orders (now (case .entry) .model)) (C·Clock .earlier (now (case .entry) .clock)) (M·Model .mark) (C·Clock .mark)) (view (now (case .exit)) .records)) r ⌝ }
-    ensures stage { λ r. ⌜ made r (λ v. verdict-at (view (now (case .exit)) .stage) ≡ v) ⌝ }
-    ensures lines { λ r. ⌜ made r (λ _. view (now (case .exit)) .lines ≡ []) ⌝ }
-    ensures model { λ _. ⌜ now (case .exit) .model ≡ now (case .entry) .model ⌝ }
-    ensures clock { λ _. ⌜ now (case .exit) .clock ≡ now (case .entry) .clock ⌝ }
+    ensures answer { result ≡ (loading M.Model.mark C.Clock.mark (view case.old) bytes.now).answer }
+    ensures state { view case.new ≡ (loading M.Model.mark C.Clock.mark (view case.old) bytes.now).state }
+    ensures kept { Kept M.Model.mark C.Clock.mark (view case.old) (view case.new) bytes.now result }
+    ensures claims { AnswerClaims (run_of (setting (M.Model.orders case.old.model) (C.Clock.earlier case.old.clock) M.Model.mark C.Clock.mark) (view case.new).records) result }
+    ensures stage { IfOk result (λ v. verdict_at (view case.new).stage ≡ v) }
+    ensures lines { OnOk result ((view case.new).lines ≡ []) }
+    ensures model { case.new.model ≡ case.old.model }
+    ensures clock { case.new.clock ≡ case.old.clock }
 {
     let mut reader = Reader::over_run(bytes);
     load_head(case, &mut reader)?;

@@ -1,11 +1,9 @@
 -- The clocks that have a name: is reading s of processor p surely earlier than reading t of processor q?
-use mathlib.Core.Bool.{Bool, false}
-use Prim.Native.Nat.{ℕ}
-use lib.Dec.{ltb}
+use Rattle.std.specs.Prelude.{ℕ, Bool, false, nat_lt}
 
 -- Global: one counter for all processors
 abbrev pub below : ℕ → ℕ → ℕ → ℕ → Bool
-below p s q t = ltb s t
+below p s q t = nat_lt s t
 
 -- None: the counters say nothing
 abbrev pub never : ℕ → ℕ → ℕ → ℕ → Bool

@@ -1,22 +1,22 @@
 -- The limits of a run.
-use Prim.Native.Nat.{ℕ}
+use Rattle.std.specs.Prelude.{ℕ}
 
 -- a run has at most so many records
-abbrev pub most-records : ℕ
-most-records = 64
+abbrev pub most_records : ℕ
+most_records = 64
 
 -- 64 × 63: the pairs of two different records, and a pair is listed once
-abbrev pub most-lines : ℕ
-most-lines = 4032
+abbrev pub most_lines : ℕ
+most_lines = 4032
 
 -- a run has 1 to so many processors
-abbrev pub most-processors : ℕ
-most-processors = 16
+abbrev pub most_processors : ℕ
+most_processors = 16
 
 -- 2^62: every reading of a counter is below it
-abbrev pub reading-limit : ℕ
-reading-limit = 4611686018427387904
+abbrev pub reading_limit : ℕ
+reading_limit = 4611686018427387904
 
 -- so many bytes of a program's input count
-abbrev pub input-limit : ℕ
-input-limit = 4096
+abbrev pub input_limit : ℕ
+input_limit = 4096

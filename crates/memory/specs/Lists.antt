@@ -1,6 +1,5 @@
 -- Tests over a list.
-use mathlib.Core.Bool.{Bool, false, _||_}
-use mathlib.Core.List.{List, [], _∷_}
+use Rattle.std.specs.Prelude.{Bool, false, ◌||◌, List, [], ◌∷◌}
 
 -- some element passes
 abbrev pub any : {X : Type 0} → (X → Bool) → List X → Bool

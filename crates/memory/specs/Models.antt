@@ -1,8 +1,8 @@
 -- The models that have a name: of an earlier and a later record of one processor, by their kinds and whether they share their address.
-use mathlib.Core.Bool.{Bool, true}
-use Rattle·memory·specs.declared.kinds.Kind.{Kind}
-use Rattle·memory·specs.declared.kinds.Kind.the-variants.{Load, Store, Fence}
-use Rattle·memory·specs.Kinds.{is-fence}
+use Rattle.std.specs.Prelude.{Bool, true}
+use Rattle.memory.specs.declared.kinds.Kind.{Kind}
+use Rattle.memory.specs.declared.kinds.Kind.TheVariants.{Load, Store, Fence}
+use Rattle.memory.specs.Kinds.{is_fence}
 
 -- sequential consistency orders every pair
 abbrev pub sc : Kind → Kind → Bool → Bool
@@ -10,6 +10,6 @@ sc earlier later same = true
 
 -- Godson orders only a fence before a later load, and everything before a later store or fence
 abbrev pub godson : Kind → Kind → Bool → Bool
-godson earlier Load same = is-fence earlier
+godson earlier Load same = is_fence earlier
 godson earlier Store same = true
 godson earlier Fence same = true

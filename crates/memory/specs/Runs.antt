@@ -1,23 +1,19 @@
 -- A run under a model and a clock, by the numbers of its records, from 1. Assumes nothing.
-use mathlib.Core.Bool.{Bool, not, _&&_}
-use mathlib.Core.List.{List}
-use Prim.Native.Nat.{ℕ, _-_, _≤_, _<_}
-use lib.Dec.{eqb, ltb}
-use lib.ListN.{length, getD}
-use Rattle·memory·specs.declared.kinds.Kind.{Kind}
-use Rattle·memory·specs.declared.kinds.Kind.the-variants.{Load}
-use Rattle·memory·specs.declared.records.Record.{Record}
-use Rattle·memory·specs.Kinds.{is-load, is-store, is-fence}
+use Rattle.std.specs.Prelude.{ℕ, ◌-◌, ◌<◌, ◌≤◌, Bool, not, ◌&&◌, List, length, ◌==◌, nat_lt, slice_index_or}
+use Rattle.memory.specs.declared.kinds.Kind.{Kind}
+use Rattle.memory.specs.declared.kinds.Kind.TheVariants.{Load}
+use Rattle.memory.specs.declared.records.Record.{Record}
+use Rattle.memory.specs.Kinds.{is_load, is_store, is_fence}
 
 -- a model and a clock, each the relation that it is, with its mark
 pub record Setting : Type 0 where
   pub orders : Kind → Kind → Bool → Bool
   pub earlier : ℕ → ℕ → ℕ → ℕ → Bool
-  pub model-mark : ℕ
-  pub clock-mark : ℕ
+  pub model_mark : ℕ
+  pub clock_mark : ℕ
 
 abbrev pub setting : (Kind → Kind → Bool → Bool) → (ℕ → ℕ → ℕ → ℕ → Bool) → ℕ → ℕ → Setting
-setting orders earlier m c = record { orders = orders; earlier = earlier; model-mark = m; clock-mark = c }
+setting orders earlier m c = record { orders = orders; earlier = earlier; model_mark = m; clock_mark = c }
 
 -- what the records 1 to size are; of any other number it says nothing
 pub record Run : Type 0 where
@@ -34,7 +30,7 @@ pub record Run : Type 0 where
 -- a is the number of a record of the run
 pub record Known (R : Run) (a : ℕ) : Type 0 where
   pub some : 0 < a
-  pub within : a ≤ R .size
+  pub within : a ≤ R.size
 
 -- what is read where there is no record
 abbrev pub blank : Record
@@ -42,24 +38,24 @@ blank = record { processor = 0; kind = Load; address = 0; value = 0; enter = 0; 
 
 -- the record with the number a
 abbrev pub at : List Record → ℕ → Record
-at rs a = getD rs (a - 1) blank
+at rs a = slice_index_or rs (a - 1) blank
 
 -- two records share their address; a fence shares it with nothing
 abbrev pub shares : Record → Record → Bool
-shares x y = not (is-fence (x .kind)) && (not (is-fence (y .kind)) && eqb (x .address) (y .address))
+shares x y = not (is_fence x.kind) && (not (is_fence y.kind) && x.address == y.address)
 
 -- the records x and y are of one processor, and the model orders x before a later y
 abbrev pub keeps : Setting → Record → Record → Bool
-keeps S x y = eqb (x .processor) (y .processor) && S .orders (x .kind) (y .kind) (shares x y)
+keeps S x y = x.processor == y.processor && S.orders x.kind y.kind (shares x y)
 
 -- the run that admitted records make; on one processor their numbers are program order
-abbrev pub run-of : Setting → List Record → Run
-run-of S rs = record {
+abbrev pub run_of : Setting → List Record → Run
+run_of S rs = record {
   size = length rs;
-  model = λ a b. ltb a b && keeps S (at rs a) (at rs b);
-  clock = λ a b. S .earlier (at rs a .processor) (at rs a .commit) (at rs b .processor) (at rs b .enter);
-  load = λ a. is-load (at rs a .kind);
-  store = λ a. is-store (at rs a .kind);
-  addr = λ a. at rs a .address;
-  value = λ a. at rs a .value;
+  model = λ a b. nat_lt a b && keeps S (at rs a) (at rs b);
+  clock = λ a b. S.earlier (at rs a).processor (at rs a).commit (at rs b).processor (at rs b).enter;
+  load = λ a. is_load (at rs a).kind;
+  store = λ a. is_store (at rs a).kind;
+  addr = λ a. (at rs a).address;
+  value = λ a. (at rs a).value;
 }

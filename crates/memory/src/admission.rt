@@ -1,18 +1,16 @@
 // What is lawful at admission, judged in one place.
-ghost use mathlib.Core.Path.{_≡_};
-ghost use Rattle·memory·specs.Admission.{judgement, judge-kind, blank-entry, last-enter, same-store};
-ghost use Rattle·memory·specs.Lists.{any};
-ghost use Rattle·std.specs.declared.option.Option.the-variants.{Some};
+ghost use Rattle.std.specs.Prelude.{◌≡◌, Some};
+ghost use Rattle.memory.specs.Admission.{judgement, judge_kind, blank_entry, last_enter, same_store};
+ghost use Rattle.memory.specs.Lists.{any};
+
 use crate::kinds::Kind;
-use crate::limits::MOST_RECORDS;
-use crate::limits::READING_LIMIT;
-use crate::records::Entry;
-use crate::records::Record;
+use crate::limits::{MOST_RECORDS, READING_LIMIT};
+use crate::records::{Entry, Record};
 use crate::refusals::Refusal;
 
 // A store of 0, or a fence with an address or a value.
 fn is_blank(kind: Kind, e: Entry) -> bool
-    ensures { λ r. ⌜ r ≡ blank-entry kind e ⌝ }
+    ensures { result ≡ blank_entry kind e }
 {
     match kind {
         Kind::Load => false,
@@ -23,7 +21,7 @@ fn is_blank(kind: Kind, e: Entry) -> bool
 
 // The enter reading of the processor's last record, or 0.
 fn last_enter(records: &[Record], processor: u8) -> u64
-    ensures { λ r. ⌜ r ≡ last-enter (now (records .entry)) processor ⌝ }
+    ensures { result ≡ last_enter records.now processor }
 {
     let mut last = 0;
     for r in records {
@@ -35,13 +33,13 @@ fn last_enter(records: &[Record], processor: u8) -> u64
 }
 
 fn is_same_store(r: Record, e: Entry) -> bool
-    ensures { λ b. ⌜ b ≡ same-store e r ⌝ }
+    ensures { result ≡ same_store e r }
 {
     r.kind.is_store() && r.address == e.address && r.value == e.value
 }
 
 fn has_twin(records: &[Record], e: Entry) -> bool
-    ensures { λ r. ⌜ r ≡ any (same-store e) (now (records .entry)) ⌝ }
+    ensures { result ≡ any (same_store e) records.now }
 {
     for r in records {
         if is_same_store(*r, e) {
@@ -53,7 +51,7 @@ fn has_twin(records: &[Record], e: Entry) -> bool
 
 // The record that an entry becomes in a run of so many processors after these records, or why it is refused.
 pub fn judge(processors: u8, records: &[Record], e: Entry) -> Result<Record, Refusal>
-    ensures { λ r. ⌜ r ≡ judgement processors (now (records .entry)) e ⌝ }
+    ensures { result ≡ judgement processors records.now e }
 {
     if records.len() >= MOST_RECORDS {
         return Err(Refusal::Full);
@@ -68,7 +66,7 @@ pub fn judge(processors: u8, records: &[Record], e: Entry) -> Result<Record, Ref
 }
 
 fn judge_content(kind: Kind, records: &[Record], e: Entry) -> Result<Record, Refusal>
-    ensures { λ r. ⌜ r ≡ judge-kind (Some kind) (now (records .entry)) e ⌝ }
+    ensures { result ≡ judge_kind (Some kind) records.now e }
 {
     if is_blank(kind, e) {
         return Err(Refusal::Blank);

@@ -1,8 +1,7 @@
 // Clocks.
-ghost use mathlib.Core.Path.{_≡_};
-ghost use mathlib.Core.Bool.{Bool, false};
-ghost use Prim.Native.Nat.{ℕ, _≤_};
-ghost use Rattle·memory·specs.Clocks.{below, never};
+ghost use Rattle.std.specs.Prelude.{◌≡◌, ℕ, ◌≤◌, Bool, false};
+ghost use Rattle.memory.specs.Clocks.{below, never};
+ghost use Rattle.std.proofs.Common.{rules};
 
 // A clock says whether reading s of processor p is surely earlier than reading t of processor q.
 pub trait Clock {
@@ -13,26 +12,28 @@ pub trait Clock {
 
     ghost earlier: { Self → ℕ → ℕ → ℕ → ℕ → Bool };
 
-    // On one processor no reading is earlier than an equal or smaller one.
-    law forward: { (c : Self) (p s t : ℕ) → t ≤ s → earlier c p s p t ≡ false };
-
     fn own_mark() -> u8
-        ensures { λ r. ⌜ r ≡ mark ⌝ };
+        ensures { result ≡ mark };
 
     fn surely_earlier(&self, p: u8, s: u64, q: u8, t: u64) -> bool
-        ensures { λ r. ⌜ r ≡ earlier (now (self .entry)) p s q t ⌝ };
+        ensures { result ≡ earlier self.now p s q t };
+
+    // On one processor no reading is earlier than an equal or smaller one.
+    ghost forward: { (c : Self) (p s t : ℕ) → t ≤ s → earlier c p s p t ≡ false };
 }
 
 // One counter for all processors.
 #[derive(Clone, Copy)]
 pub struct GlobalClock;
 
-pub impl Clock for GlobalClock as GlobalTime {
+impl Clock for GlobalClock {
     const MARK: u8 = 1;
 
     ghost mark = { 1 };
 
     ghost earlier = { λ _. below };
+
+    ghost forward = { Prim.search rules };
 
     fn own_mark() -> u8 {
         Self::MARK
@@ -47,12 +48,14 @@ pub impl Clock for GlobalClock as GlobalTime {
 #[derive(Clone, Copy)]
 pub struct NoClock;
 
-pub impl Clock for NoClock as NoTime {
+impl Clock for NoClock {
     const MARK: u8 = 3;
 
     ghost mark = { 3 };
 
     ghost earlier = { λ _. never };
+
+    ghost forward = { Prim.search rules };
 
     fn own_mark() -> u8 {
         Self::MARK

@@ -1,6 +1,6 @@
 // The kinds of records.
-ghost use mathlib.Core.Path.{_≡_};
-ghost use Rattle·memory·specs.Kinds.{kind-number, kind-at, is-load, is-store, is-fence};
+ghost use Rattle.std.specs.Prelude.{◌≡◌};
+ghost use Rattle.memory.specs.Kinds.{kind_number, kind_at, is_load, is_store, is_fence};
 
 #[derive(Clone, Copy)]
 pub enum Kind {
@@ -11,7 +11,7 @@ pub enum Kind {
 
 impl Kind {
     pub fn number(self) -> u8
-        ensures { λ r. ⌜ r ≡ kind-number self ⌝ }
+        ensures { result ≡ kind_number self }
     {
         match self {
             Kind::Load => 1,
@@ -22,7 +22,7 @@ impl Kind {
 
     // The kind with a number, if there is one.
     pub fn from_number(number: u8) -> Option<Kind>
-        ensures { λ r. ⌜ r ≡ kind-at number ⌝ }
+        ensures { result ≡ kind_at number }
     {
         match number {
             1 => Some(Kind::Load),
@@ -33,7 +33,7 @@ impl Kind {
     }
 
     pub fn is_load(self) -> bool
-        ensures { λ r. ⌜ r ≡ is-load self ⌝ }
+        ensures { result ≡ is_load self }
     {
         match self {
             Kind::Load => true,
@@ -42,7 +42,7 @@ impl Kind {
     }
 
     pub fn is_store(self) -> bool
-        ensures { λ r. ⌜ r ≡ is-store self ⌝ }
+        ensures { result ≡ is_store self }
     {
         match self {
             Kind::Store => true,
@@ -51,7 +51,7 @@ impl Kind {
     }
 
     pub fn is_fence(self) -> bool
-        ensures { λ r. ⌜ r ≡ is-fence self ⌝ }
+        ensures { result ≡ is_fence self }
     {
         match self {
             Kind::Fence => true,

@@ -1,6 +1,6 @@
 // Lines: what must come before what, and by which rule.
-ghost use mathlib.Core.Path.{_≡_};
-ghost use Rattle·memory·specs.Numbers.{rule-number, rule-at};
+ghost use Rattle.std.specs.Prelude.{◌≡◌};
+ghost use Rattle.memory.specs.Numbers.{rule_number, rule_at};
 
 // Rules have the numbers 1 to this one.
 pub const LAST_RULE: u8 = 7;
@@ -27,7 +27,7 @@ pub struct Line {
 
 impl Rule {
     pub fn number(self) -> u8
-        ensures { λ r. ⌜ r ≡ rule-number self ⌝ }
+        ensures { result ≡ rule_number self }
     {
         match self {
             Rule::Clock => 1,
@@ -42,7 +42,7 @@ impl Rule {
 
     // The rule with a number, if there is one.
     pub fn from_number(number: u8) -> Option<Rule>
-        ensures { λ r. ⌜ r ≡ rule-at number ⌝ }
+        ensures { result ≡ rule_at number }
     {
         match number {
             1 => Some(Rule::Clock),

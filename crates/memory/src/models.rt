@@ -1,9 +1,8 @@
 // Memory models.
-ghost use mathlib.Core.Path.{_≡_};
-ghost use mathlib.Core.Bool.{Bool};
-ghost use Prim.Native.Nat.{ℕ};
-ghost use Rattle·memory·specs.declared.kinds.Kind.{Kind};
-ghost use Rattle·memory·specs.Models.{sc, godson};
+ghost use Rattle.std.specs.Prelude.{◌≡◌, ℕ, Bool};
+ghost use Rattle.memory.specs.declared.kinds.Kind.{Kind};
+ghost use Rattle.memory.specs.Models.{sc, godson};
+
 use crate::kinds::Kind;
 
 // A model says of two records of one processor whether the earlier must come before the later.
@@ -17,17 +16,17 @@ pub trait Model {
     ghost orders: { Self → Kind → Kind → Bool → Bool };
 
     fn own_mark() -> u8
-        ensures { λ r. ⌜ r ≡ mark ⌝ };
+        ensures { result ≡ mark };
 
     fn must_precede(&self, earlier: Kind, later: Kind, same_address: bool) -> bool
-        ensures { λ r. ⌜ r ≡ orders (now (self .entry)) earlier later «same_address» ⌝ };
+        ensures { result ≡ orders self.now earlier later same_address };
 }
 
 // Sequential consistency: every pair is ordered.
 #[derive(Clone, Copy)]
 pub struct Sc;
 
-pub impl Model for Sc as ScModel {
+impl Model for Sc {
     const MARK: u8 = 1;
 
     ghost mark = { 1 };
@@ -47,7 +46,7 @@ pub impl Model for Sc as ScModel {
 #[derive(Clone, Copy)]
 pub struct Godson;
 
-pub impl Model for Godson as GodsonModel {
+impl Model for Godson {
     const MARK: u8 = 3;
 
     ghost mark = { 3 };

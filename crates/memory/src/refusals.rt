@@ -1,6 +1,6 @@
 // Why the checker says no, in which layer, and where.
-ghost use mathlib.Core.Path.{_≡_};
-ghost use Rattle·memory·specs.Numbers.{refusal-number, layer-number};
+ghost use Rattle.std.specs.Prelude.{◌≡◌};
+ghost use Rattle.memory.specs.Numbers.{refusal_number, layer_number};
 
 #[derive(Clone, Copy)]
 pub enum Refusal {
@@ -41,7 +41,7 @@ pub struct Fault {
 
 impl Refusal {
     pub fn number(self) -> u8
-        ensures { λ r. ⌜ r ≡ refusal-number self ⌝ }
+        ensures { result ≡ refusal_number self }
     {
         match self {
             Refusal::Malformed => 1,
@@ -67,7 +67,7 @@ impl Refusal {
 
 impl Layer {
     pub fn number(self) -> u8
-        ensures { λ r. ⌜ r ≡ layer-number self ⌝ }
+        ensures { result ≡ layer_number self }
     {
         match self {
             Layer::RunBytes => 1,

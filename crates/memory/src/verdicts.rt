@@ -1,6 +1,6 @@
 // What a case can be decided by.
-ghost use mathlib.Core.Path.{_≡_};
-ghost use Rattle·memory·specs.Numbers.{verdict-number};
+ghost use Rattle.std.specs.Prelude.{◌≡◌};
+ghost use Rattle.memory.specs.Numbers.{verdict_number};
 
 // A case that is not decided has no verdict, which has the number 0. An orphan is named by the number of its record.
 #[derive(Clone, Copy)]
@@ -12,7 +12,7 @@ pub enum Verdict {
 }
 
 pub fn verdict_number(verdict: Option<Verdict>) -> u8
-    ensures { λ r. ⌜ r ≡ verdict-number verdict ⌝ }
+    ensures { result ≡ verdict_number verdict }
 {
     match verdict {
         None => 0,

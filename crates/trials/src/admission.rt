@@ -1,20 +1,12 @@
 // Which records a case takes, and which processors.
-use crate::tools::ScCase;
-use crate::tools::Row;
-use crate::tools::admit_rows;
-use crate::tools::admitted;
-use crate::tools::counts;
-use crate::tools::entry;
-use crate::tools::loaded;
-use crate::tools::opened;
-use crate::tools::sealed;
-use crate::tools::written;
+use crate::tools::{
+    Row, ScCase, admit_rows, admitted, counts, entry, loaded, opened, sealed, written,
+};
 use loading::load;
 use memory::clocks::GlobalClock;
-use memory::clocks::GlobalTime;
 use memory::models::Sc;
-use memory::models::ScModel;
-use std::test::*;
+use std::process::Abort;
+use std::test::Fail;
 use writing::write_run;
 
 // 2^62
@@ -79,60 +71,65 @@ const SEVERAL: [Row; 13] = [
 ];
 
 #[test]
-fn the_first_broken_rule_is_told_and_its_border_passes(rt: LibcRuntime) -> Result<(), Fail> {
+fn the_first_broken_rule_is_told_and_its_border_passes(rt: HostRuntime) -> Result<(), Fail> {
     let mut case = ScCase::new(rt.alloc(), Sc, GlobalClock)?;
-    admit_rows(&mut case, &SEVERAL)?;
-    check_eq(case.standing().records.len(), 1)?;
-    check_eq(opened(case.open(2)), (0, 0, 0))?;
-    admit_rows(&mut case, &BORDERS)?;
-    check_eq(case.standing().records.len(), 9)
+    admit_rows(&rt, &mut case, &SEVERAL);
+    assert_eq!(rt; case.standing().records.len(), 1);
+    assert_eq!(rt; opened(case.open(2)), (0, 0, 0));
+    admit_rows(&rt, &mut case, &BORDERS);
+    assert_eq!(rt; case.standing().records.len(), 9);
+    Ok(())
 }
 
-fn fill(case: &mut ScCase) -> Result<(), Fail> {
+fn fill(rt: &impl Abort, case: &mut ScCase) {
     for i in 1..65 {
-        check_eq(admitted(case.admit(entry(0, 2, 16, i))), (0, 0, i as usize))?;
+        assert_eq!(rt;
+            admitted(case.admit(entry(0, 2, 16, i))),
+            (0, 0, i as usize)
+        );
     }
-    Ok(())
 }
 
 // The run of the full case, with one more record in its bytes.
 #[test]
-fn sixty_four_records_are_admitted_and_no_more(rt: LibcRuntime) -> Result<(), Fail> {
+fn sixty_four_records_are_admitted_and_no_more(rt: HostRuntime) -> Result<(), Fail> {
     let mut case = ScCase::new(rt.alloc(), Sc, GlobalClock)?;
-    fill(&mut case)?;
-    check_eq(admitted(case.admit(entry(0, 2, 16, 65))), (6, 2, 65))?;
+    fill(&rt, &mut case);
+    assert_eq!(rt; admitted(case.admit(entry(0, 2, 16, 65))), (6, 2, 65));
     // full comes before all that is wrong with the record
-    check_eq(admitted(case.admit(entry(1, 4, 16, 0))), (6, 2, 65))?;
+    assert_eq!(rt; admitted(case.admit(entry(1, 4, 16, 0))), (6, 2, 65));
     let mut bytes = [0; 2154];
-    check_eq(written(write_run(&case, &mut bytes)), (0, 0, 2121))?;
+    assert_eq!(rt; written(write_run(&case, &mut bytes)), (0, 0, 2121));
     bytes[2118] = 0x02;
     bytes[2120] = 0x1e;
     bytes[2151] = 0x03;
-    check_eq(loaded(load(&mut case, &bytes)), (6, 2, 2118))?;
-    check_eq(case.standing().records.len(), 64)?;
-    check_eq(admitted(case.admit(entry(0, 2, 16, 65))), (6, 2, 65))?;
+    assert_eq!(rt; loaded(load(&mut case, &bytes)), (6, 2, 2118));
+    assert_eq!(rt; case.standing().records.len(), 64);
+    assert_eq!(rt; admitted(case.admit(entry(0, 2, 16, 65))), (6, 2, 65));
     // sealed comes before full
-    check_eq(sealed(case.seal()), (0, 0, 0))?;
-    check_eq(admitted(case.admit(entry(0, 2, 16, 65))), (4, 2, 65))
+    assert_eq!(rt; sealed(case.seal()), (0, 0, 0));
+    assert_eq!(rt; admitted(case.admit(entry(0, 2, 16, 65))), (4, 2, 65));
+    Ok(())
 }
 
 #[test]
-fn one_to_sixteen_processors_open_a_case(rt: LibcRuntime) -> Result<(), Fail> {
+fn one_to_sixteen_processors_open_a_case(rt: HostRuntime) -> Result<(), Fail> {
     let mut case = ScCase::new(rt.alloc(), Sc, GlobalClock)?;
-    check_eq(opened(case.open(0)), (7, 2, 1))?;
-    check_eq(admitted(case.admit(entry(0, 2, 16, 1))), (0, 0, 1))?;
-    check_eq(opened(case.open(0)), (7, 2, 2))?;
-    check_eq(opened(case.open(17)), (7, 2, 2))?;
-    check_eq(counts(&case), (1, 1))?;
+    assert_eq!(rt; opened(case.open(0)), (7, 2, 1));
+    assert_eq!(rt; admitted(case.admit(entry(0, 2, 16, 1))), (0, 0, 1));
+    assert_eq!(rt; opened(case.open(0)), (7, 2, 2));
+    assert_eq!(rt; opened(case.open(17)), (7, 2, 2));
+    assert_eq!(rt; counts(&case), (1, 1));
     // a refused opening leaves a sealed case sealed
-    check_eq(sealed(case.seal()), (0, 0, 0))?;
-    check_eq(opened(case.open(255)), (7, 2, 2))?;
-    check_eq(admitted(case.admit(entry(0, 2, 32, 1))), (4, 2, 2))?;
+    assert_eq!(rt; sealed(case.seal()), (0, 0, 0));
+    assert_eq!(rt; opened(case.open(255)), (7, 2, 2));
+    assert_eq!(rt; admitted(case.admit(entry(0, 2, 32, 1))), (4, 2, 2));
     // another begins anew
-    check_eq(opened(case.open(16)), (0, 0, 0))?;
-    check_eq(counts(&case), (16, 0))?;
-    check_eq(admitted(case.admit(entry(16, 2, 16, 1))), (7, 2, 1))?;
-    check_eq(admitted(case.admit(entry(15, 2, 16, 1))), (0, 0, 1))?;
-    check_eq(opened(case.open(1)), (0, 0, 0))?;
-    check_eq(counts(&case), (1, 0))
+    assert_eq!(rt; opened(case.open(16)), (0, 0, 0));
+    assert_eq!(rt; counts(&case), (16, 0));
+    assert_eq!(rt; admitted(case.admit(entry(16, 2, 16, 1))), (7, 2, 1));
+    assert_eq!(rt; admitted(case.admit(entry(15, 2, 16, 1))), (0, 0, 1));
+    assert_eq!(rt; opened(case.open(1)), (0, 0, 0));
+    assert_eq!(rt; counts(&case), (1, 0));
+    Ok(())
 }

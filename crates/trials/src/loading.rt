@@ -1,27 +1,25 @@
 // What loading tells of bytes, and what it leaves in the case.
-use crate::tools::ScCase;
-use crate::tools::EMPTY;
-use crate::tools::MESSAGE;
-use crate::tools::ORPHAN;
-use crate::tools::Told;
-use crate::tools::admitted;
-use crate::tools::entry;
-use crate::tools::loaded;
-use crate::tools::written;
+use crate::tools::{EMPTY, MESSAGE, ORPHAN, ScCase, Told, admitted, entry, loaded, written};
 use loading::load;
 use memory::clocks::GlobalClock;
-use memory::clocks::GlobalTime;
 use memory::models::Sc;
-use memory::models::ScModel;
-use std::test::*;
+use std::process::Abort;
+use std::test::Fail;
 use writing::write_run;
 
 // Loads bytes into a decided case of two records, and then admits a load of 0: a case that is as it was refuses that with
 // 3 at place 3, a sealed one with 4, and an open one answers the number of the record.
-fn load_then_admit(case: &mut ScCase, bytes: &[u8], told: Told, then: Told) -> Result<(), Fail> {
-    check_eq(loaded(load(case, &ORPHAN)), (0, 0, 203))?;
-    check_eq(loaded(load(case, bytes)), told)?;
-    check_eq(admitted(case.admit(entry(0, 1, 16, 0))), then)
+fn load_then_admit(
+    rt: &impl Abort,
+    case: &mut ScCase,
+    bytes: &[u8],
+    told: Told,
+    then: Told,
+) -> Result<(), Fail> {
+    assert_eq!(rt; loaded(load(case, &ORPHAN)), (0, 0, 203));
+    assert_eq!(rt; loaded(load(case, bytes)), told);
+    assert_eq!(rt; admitted(case.admit(entry(0, 1, 16, 0))), then);
+    Ok(())
 }
 
 const AS_IT_WAS: Told = (3, 2, 3);
@@ -39,16 +37,29 @@ fn cut_field(left: usize) -> usize {
 
 // The records before it stay.
 fn after_cut(left: usize) -> Told {
-    if left < 6 { AS_IT_WAS } else { (0, 0, (left - 6) / 33 + 1) }
+    if left < 6 {
+        AS_IT_WAS
+    } else {
+        (0, 0, (left - 6) / 33 + 1)
+    }
 }
 
 #[test]
-fn a_run_cut_at_any_length_is_refused_at_the_field_that_is_cut(rt: LibcRuntime) -> Result<(), Fail> {
+fn a_run_cut_at_any_length_is_refused_at_the_field_that_is_cut(
+    rt: HostRuntime,
+) -> Result<(), Fail> {
     let mut case = ScCase::new(rt.alloc(), Sc, GlobalClock)?;
     for n in 0..141 {
-        load_then_admit(&mut case, &MESSAGE[0..n], (1, 1, cut_field(n)), after_cut(n)).note(format_args!("cut to {n}"))?;
+        load_then_admit(
+            &rt,
+            &mut case,
+            &MESSAGE[0..n],
+            (1, 1, cut_field(n)),
+            after_cut(n),
+        )
+        .note(format_args!("cut to {n}"))?;
     }
-    load_then_admit(&mut case, &MESSAGE, (0, 0, 0), (4, 2, 5))
+    load_then_admit(&rt, &mut case, &MESSAGE, (0, 0, 0), (4, 2, 5))
 }
 
 // A place in the message run and the byte that is put there, then what loading tells and a further admission.
@@ -119,60 +130,63 @@ const CONTENTS: [Change; 24] = [
     (129, 9, (11, 2, 105), (0, 0, 4)),
 ];
 
-fn load_changed(case: &mut ScCase, changes: &[Change]) -> Result<(), Fail> {
+fn load_changed(rt: &impl Abort, case: &mut ScCase, changes: &[Change]) -> Result<(), Fail> {
     for change in changes {
         let (at, byte, told, then) = *change;
         let mut bytes = MESSAGE;
         if at < bytes.len() {
             bytes[at] = byte;
         }
-        load_then_admit(case, &bytes, told, then).note(format_args!("{byte} at {at}"))?;
+        load_then_admit(rt, case, &bytes, told, then).note(format_args!("{byte} at {at}"))?;
     }
     Ok(())
 }
 
 #[test]
-fn a_byte_that_is_changed_is_told_at_its_field_and_what_came_before_stays(rt: LibcRuntime) -> Result<(), Fail> {
+fn a_byte_that_is_changed_is_told_at_its_field_and_what_came_before_stays(
+    rt: HostRuntime,
+) -> Result<(), Fail> {
     let mut case = ScCase::new(rt.alloc(), Sc, GlobalClock)?;
-    load_changed(&mut case, &SHAPES)?;
-    load_changed(&mut case, &CONTENTS)
+    load_changed(&rt, &mut case, &SHAPES)?;
+    load_changed(&rt, &mut case, &CONTENTS)
 }
 
 // No bytes, a run without its head, an end alone, and bytes behind the end.
 #[test]
-fn a_run_begins_with_its_head_and_ends_with_its_end(rt: LibcRuntime) -> Result<(), Fail> {
+fn a_run_begins_with_its_head_and_ends_with_its_end(rt: HostRuntime) -> Result<(), Fail> {
     let mut case = ScCase::new(rt.alloc(), Sc, GlobalClock)?;
-    load_then_admit(&mut case, &[], (1, 1, 0), AS_IT_WAS)?;
-    load_then_admit(&mut case, &MESSAGE[6..141], (1, 1, 0), AS_IT_WAS)?;
-    load_then_admit(&mut case, &MESSAGE[138..141], (1, 1, 0), AS_IT_WAS)?;
+    load_then_admit(&rt, &mut case, &[], (1, 1, 0), AS_IT_WAS)?;
+    load_then_admit(&rt, &mut case, &MESSAGE[6..141], (1, 1, 0), AS_IT_WAS)?;
+    load_then_admit(&rt, &mut case, &MESSAGE[138..141], (1, 1, 0), AS_IT_WAS)?;
     let mut bytes = [0; 144];
-    check_eq(loaded(load(&mut case, &MESSAGE)), (0, 0, 0))?;
-    check_eq(written(write_run(&case, &mut bytes)), (0, 0, 141))?;
-    load_then_admit(&mut case, &bytes[0..142], (1, 1, 141), (0, 0, 5))?;
+    assert_eq!(rt; loaded(load(&mut case, &MESSAGE)), (0, 0, 0));
+    assert_eq!(rt; written(write_run(&case, &mut bytes)), (0, 0, 141));
+    load_then_admit(&rt, &mut case, &bytes[0..142], (1, 1, 141), (0, 0, 5))?;
     // a second end is no better
     bytes[141] = 0x03;
-    load_then_admit(&mut case, &bytes, (1, 1, 141), (0, 0, 5))?;
-    load_then_admit(&mut case, &bytes[0..141], (0, 0, 0), (4, 2, 5))?;
-    load_then_admit(&mut case, &EMPTY, (0, 0, 1), (3, 2, 1))?;
-    check_eq(case.standing().processors, 2)
+    load_then_admit(&rt, &mut case, &bytes, (1, 1, 141), (0, 0, 5))?;
+    load_then_admit(&rt, &mut case, &bytes[0..141], (0, 0, 0), (4, 2, 5))?;
+    load_then_admit(&rt, &mut case, &EMPTY, (0, 0, 1), (3, 2, 1))?;
+    assert_eq!(rt; case.standing().processors, 2);
+    Ok(())
 }
 
 // Marks come before processors, a field's shape before its content, and its content before the next field.
 #[test]
-fn loading_tells_the_first_of_several_faults(rt: LibcRuntime) -> Result<(), Fail> {
+fn loading_tells_the_first_of_several_faults(rt: HostRuntime) -> Result<(), Fail> {
     let mut case = ScCase::new(rt.alloc(), Sc, GlobalClock)?;
     let mut bytes = MESSAGE;
     bytes[3] = 0;
     bytes[4] = 2;
-    load_then_admit(&mut case, &bytes, (2, 2, 0), AS_IT_WAS)?;
+    load_then_admit(&rt, &mut case, &bytes, (2, 2, 0), AS_IT_WAS)?;
     bytes[2] = 4;
-    load_then_admit(&mut case, &bytes, (1, 1, 0), AS_IT_WAS)?;
+    load_then_admit(&rt, &mut case, &bytes, (1, 1, 0), AS_IT_WAS)?;
     let mut bytes = MESSAGE;
     bytes[42] = 2;
     bytes[43] = 0;
-    load_then_admit(&mut case, &bytes, (7, 2, 39), (0, 0, 2))?;
-    load_then_admit(&mut case, &bytes[0..71], (1, 1, 39), (0, 0, 2))?;
-    load_then_admit(&mut case, &bytes[0..72], (7, 2, 39), (0, 0, 2))?;
+    load_then_admit(&rt, &mut case, &bytes, (7, 2, 39), (0, 0, 2))?;
+    load_then_admit(&rt, &mut case, &bytes[0..71], (1, 1, 39), (0, 0, 2))?;
+    load_then_admit(&rt, &mut case, &bytes[0..72], (7, 2, 39), (0, 0, 2))?;
     bytes[22] = 0;
-    load_then_admit(&mut case, &bytes[0..50], (9, 2, 6), (0, 0, 1))
+    load_then_admit(&rt, &mut case, &bytes[0..50], (9, 2, 6), (0, 0, 1))
 }

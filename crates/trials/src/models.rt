@@ -1,16 +1,8 @@
 // What models and clocks answer.
-use memory::clocks::Clock;
-use memory::clocks::GlobalClock;
-use memory::clocks::GlobalTime;
-use memory::clocks::NoClock;
-use memory::clocks::NoTime;
+use memory::clocks::{Clock, GlobalClock, NoClock};
 use memory::kinds::Kind;
-use memory::models::Godson;
-use memory::models::GodsonModel;
-use memory::models::Model;
-use memory::models::Sc;
-use memory::models::ScModel;
-use std::test::*;
+use memory::models::{Godson, Model, Sc};
+use std::process::Abort;
 
 // What a model answers of an earlier record, for a later load, store and fence.
 fn answers<M: Model>(model: &M, earlier: Kind, same: bool) -> (bool, bool, bool) {
@@ -21,32 +13,44 @@ fn answers<M: Model>(model: &M, earlier: Kind, same: bool) -> (bool, bool, bool)
     )
 }
 
-fn answer_rightly(same: bool) -> Result<(), Fail> {
-    check_eq(answers(&Sc, Kind::Load, same), (true, true, true))?;
-    check_eq(answers(&Sc, Kind::Store, same), (true, true, true))?;
-    check_eq(answers(&Sc, Kind::Fence, same), (true, true, true))?;
-    check_eq(answers(&Godson, Kind::Load, same), (false, true, true))?;
-    check_eq(answers(&Godson, Kind::Store, same), (false, true, true))?;
-    check_eq(answers(&Godson, Kind::Fence, same), (true, true, true))
+fn answer_rightly(rt: &impl Abort, same: bool) {
+    assert_eq!(rt; answers(&Sc, Kind::Load, same), (true, true, true));
+    assert_eq!(rt; answers(&Sc, Kind::Store, same), (true, true, true));
+    assert_eq!(rt; answers(&Sc, Kind::Fence, same), (true, true, true));
+    assert_eq!(rt; answers(&Godson, Kind::Load, same), (false, true, true));
+    assert_eq!(rt; answers(&Godson, Kind::Store, same), (false, true, true));
+    assert_eq!(rt; answers(&Godson, Kind::Fence, same), (true, true, true));
 }
 
 #[test]
-fn sc_orders_every_pair_and_godson_no_load_but_behind_a_fence() -> Result<(), Fail> {
-    check_eq((ScModel::MARK, GodsonModel::MARK), (1, 3))?;
-    check_eq((ScModel::own_mark(), GodsonModel::own_mark()), (1, 3))?;
-    answer_rightly(false)?;
-    answer_rightly(true)
+fn sc_orders_every_pair_and_godson_no_load_but_behind_a_fence(rt: HostRuntime) {
+    assert_eq!(rt; (<Sc as Model>::MARK, <Godson as Model>::MARK), (1, 3));
+    assert_eq!(rt;
+        (<Sc as Model>::own_mark(), <Godson as Model>::own_mark()),
+        (1, 3)
+    );
+    answer_rightly(&rt, false);
+    answer_rightly(&rt, true);
 }
 
 #[test]
-fn the_global_clock_compares_readings_and_the_other_says_nothing() -> Result<(), Fail> {
-    check_eq((GlobalTime::MARK, NoTime::MARK), (1, 3))?;
-    check_eq((GlobalTime::own_mark(), NoTime::own_mark()), (1, 3))?;
-    check(!GlobalClock.surely_earlier(0, 10, 1, 10))?;
-    check(GlobalClock.surely_earlier(0, 10, 1, 11))?;
-    check(!GlobalClock.surely_earlier(0, 11, 1, 10))?;
-    check(GlobalClock.surely_earlier(1, 10, 1, 11))?;
-    check(GlobalClock.surely_earlier(0, 0, 15, u64::MAX))?;
-    check(!NoClock.surely_earlier(0, 10, 1, 11))?;
-    check(!NoClock.surely_earlier(0, 0, 0, u64::MAX))
+fn the_global_clock_compares_readings_and_the_other_says_nothing(rt: HostRuntime) {
+    assert_eq!(rt;
+        (<GlobalClock as Clock>::MARK, <NoClock as Clock>::MARK),
+        (1, 3)
+    );
+    assert_eq!(rt;
+        (
+            <GlobalClock as Clock>::own_mark(),
+            <NoClock as Clock>::own_mark()
+        ),
+        (1, 3)
+    );
+    assert!(rt; !GlobalClock.surely_earlier(0, 10, 1, 10));
+    assert!(rt; GlobalClock.surely_earlier(0, 10, 1, 11));
+    assert!(rt; !GlobalClock.surely_earlier(0, 11, 1, 10));
+    assert!(rt; GlobalClock.surely_earlier(1, 10, 1, 11));
+    assert!(rt; GlobalClock.surely_earlier(0, 0, 15, u64::MAX));
+    assert!(rt; !NoClock.surely_earlier(0, 10, 1, 11));
+    assert!(rt; !NoClock.surely_earlier(0, 0, 0, u64::MAX));
 }

@@ -1,16 +1,8 @@
 // Fields as the reader hands them on, and bytes that no case writes yet.
-use memory::refusals::Fault;
-use memory::refusals::Layer;
-use memory::refusals::Refusal;
-use std::test::*;
+use memory::refusals::{Fault, Layer, Refusal};
 use wire::faults::ByteFault;
-use wire::fields::Field;
-use wire::fields::Part;
-use wire::fields::Reader;
-use wire::writing::Paper;
-use wire::writing::PaperHead;
-use wire::writing::write_notice;
-use wire::writing::write_paper;
+use wire::fields::{Field, Part, Reader};
+use wire::writing::{Paper, PaperHead, write_notice, write_paper};
 
 // A field's name, place and content; or a fault and its place.
 type Seen<'a> = (&'static str, usize, &'a [u8]);
@@ -41,27 +33,23 @@ fn rest(reader: &Reader<'_>) -> Option<usize> {
 
 // A head at 0, lines at 7 and 14, an order at 21, an orphan at 26, an end at 30.
 const PAPER: [u8; 33] = [
-    0x10, 0, 4, 2, 1, 1, 9,
-    0x11, 0, 4, 1, 2, 3, 4,
-    0x11, 0, 4, 5, 6, 7, 8,
-    0x12, 0, 2, 11, 12,
-    0x13, 0, 1, 13,
-    0x1f, 0, 0,
+    0x10, 0, 4, 2, 1, 1, 9, 0x11, 0, 4, 1, 2, 3, 4, 0x11, 0, 4, 5, 6, 7, 8, 0x12, 0, 2, 11, 12,
+    0x13, 0, 1, 13, 0x1f, 0, 0,
 ];
 
 #[test]
-fn a_paper_is_read_field_by_field() -> Result<(), Fail> {
+fn a_paper_is_read_field_by_field(rt: HostRuntime) {
     let mut reader = Reader::over_paper(&PAPER);
-    check_eq(rest(&reader), Some(0))?;
-    check_eq(seen(reader.next()), ("head", 0, &[2, 1, 1, 9][..]))?;
-    check_eq(seen(reader.next()), ("line", 7, &[1, 2, 3, 4][..]))?;
-    check_eq(seen(reader.next()), ("line", 14, &[5, 6, 7, 8][..]))?;
-    check_eq(rest(&reader), Some(21))?;
-    check_eq(seen(reader.next()), ("order", 21, &[11, 12][..]))?;
-    check_eq(seen(reader.next()), ("orphan", 26, &[13][..]))?;
-    check_eq(seen(reader.next()), ("end", 30, &[][..]))?;
-    check_eq(rest(&reader), None)?;
-    check_eq(seen(reader.next()), ("fault", 33, &[][..]))
+    assert_eq!(rt; rest(&reader), Some(0));
+    assert_eq!(rt; seen(reader.next()), ("head", 0, &[2, 1, 1, 9][..]));
+    assert_eq!(rt; seen(reader.next()), ("line", 7, &[1, 2, 3, 4][..]));
+    assert_eq!(rt; seen(reader.next()), ("line", 14, &[5, 6, 7, 8][..]));
+    assert_eq!(rt; rest(&reader), Some(21));
+    assert_eq!(rt; seen(reader.next()), ("order", 21, &[11, 12][..]));
+    assert_eq!(rt; seen(reader.next()), ("orphan", 26, &[13][..]));
+    assert_eq!(rt; seen(reader.next()), ("end", 30, &[][..]));
+    assert_eq!(rt; rest(&reader), None);
+    assert_eq!(rt; seen(reader.next()), ("fault", 33, &[][..]));
 }
 
 // The first field of a paper.
@@ -71,43 +59,49 @@ fn first(bytes: &[u8]) -> Seen<'_> {
 }
 
 #[test]
-fn a_paper_has_no_field_of_a_run_and_no_end_with_content() -> Result<(), Fail> {
-    check_eq(first(&[0x1f, 0, 0]), ("end", 0, &[][..]))?;
-    check_eq(first(&[0x1f, 0, 1, 7]), ("fault", 0, &[][..]))?;
-    check_eq(first(&[0x12, 0, 0]), ("order", 0, &[][..]))?;
-    check_eq(first(&[0x13, 0, 1]), ("fault", 0, &[][..]))?;
-    check_eq(first(&[0x12, 1, 0, 7]), ("fault", 0, &[][..]))?;
-    check_eq(first(&[0x1f, 0]), ("fault", 0, &[][..]))?;
-    check_eq(first(&[]), ("fault", 0, &[][..]))?;
+fn a_paper_has_no_field_of_a_run_and_no_end_with_content(rt: HostRuntime) {
+    assert_eq!(rt; first(&[0x1f, 0, 0]), ("end", 0, &[][..]));
+    assert_eq!(rt; first(&[0x1f, 0, 1, 7]), ("fault", 0, &[][..]));
+    assert_eq!(rt; first(&[0x12, 0, 0]), ("order", 0, &[][..]));
+    assert_eq!(rt; first(&[0x13, 0, 1]), ("fault", 0, &[][..]));
+    assert_eq!(rt; first(&[0x12, 1, 0, 7]), ("fault", 0, &[][..]));
+    assert_eq!(rt; first(&[0x1f, 0]), ("fault", 0, &[][..]));
+    assert_eq!(rt; first(&[]), ("fault", 0, &[][..]));
     for tag in [0x00, 0x01, 0x02, 0x03, 0x0f, 0x14, 0x1d, 0x1e, 0x20, 0xff] {
-        check_eq(first(&[tag, 0, 0]), ("fault", 0, &[][..])).note(tag)?;
+        assert_eq!(rt; first(&[tag, 0, 0]), ("fault", 0, &[][..]), "{}", tag);
     }
     // a fault leaves the reader where it was
     let mut reader = Reader::over_paper(&[0x12, 0, 1, 5, 0x1f, 0, 1, 7]);
-    check_eq(seen(reader.next()), ("order", 0, &[5][..]))?;
-    check_eq(seen(reader.next()), ("fault", 4, &[][..]))?;
-    check_eq(seen(reader.next()), ("fault", 4, &[][..]))?;
-    check_eq(rest(&reader), Some(4))
+    assert_eq!(rt; seen(reader.next()), ("order", 0, &[5][..]));
+    assert_eq!(rt; seen(reader.next()), ("fault", 4, &[][..]));
+    assert_eq!(rt; seen(reader.next()), ("fault", 4, &[][..]));
+    assert_eq!(rt; rest(&reader), Some(4));
 }
 
 #[test]
-fn notices_and_orders_are_these_bytes() -> Result<(), Fail> {
+fn notices_and_orders_are_these_bytes(rt: HostRuntime) {
     let twin = Fault {
         refusal: Refusal::Twin,
         layer: Layer::Content,
         place: 0x01020327,
     };
     let mut out = [0xaa; 16];
-    check(write_notice(&mut out[0..8], twin).is_err())?;
-    check_eq(&out[..], &[0xaa; 16][..])?;
-    check_eq(write_notice(&mut out, twin).ok(), Some(9))?;
-    check_eq(&out[0..10], &[0x1e, 0, 6, 12, 2, 1, 2, 3, 0x27, 0xaa][..])?;
+    assert!(rt; write_notice(&mut out[0..8], twin).is_err());
+    assert_eq!(rt; &out[..], &[0xaa; 16][..]);
+    assert_eq!(rt; write_notice(&mut out, twin).ok(), Some(9));
+    assert_eq!(rt; &out[0..10], &[0x1e, 0, 6, 12, 2, 1, 2, 3, 0x27, 0xaa][..]);
     let head = PaperHead {
         model: 3,
         clock: 1,
         records: 3,
     };
-    check(write_paper(&mut out[0..15], head, Paper::Order(&[2, 3, 1])).is_err())?;
-    check_eq(write_paper(&mut out, head, Paper::Order(&[2, 3, 1])).ok(), Some(16))?;
-    check_eq(&out[..], &[0x10, 0, 4, 1, 3, 1, 3, 0x12, 0, 3, 2, 3, 1, 0x1f, 0, 0][..])
+    assert!(rt; write_paper(&mut out[0..15], head, Paper::Order(&[2, 3, 1])).is_err());
+    assert_eq!(rt;
+        write_paper(&mut out, head, Paper::Order(&[2, 3, 1])).ok(),
+        Some(16)
+    );
+    assert_eq!(rt;
+        &out[..],
+        &[0x10, 0, 4, 1, 3, 1, 3, 0x12, 0, 3, 2, 3, 1, 0x1f, 0, 0][..]
+    );
 }

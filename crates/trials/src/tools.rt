@@ -1,18 +1,13 @@
 // What the tests share.
 use case::cases::Case;
 use case::progress::Progress;
-use memory::clocks::Clock;
-use memory::clocks::GlobalClock;
-use memory::clocks::GlobalTime;
+use memory::clocks::{Clock, GlobalClock};
 use memory::lines::Line;
-use memory::models::Model;
-use memory::models::Sc;
-use memory::models::ScModel;
+use memory::models::{Model, Sc};
 use memory::records::Entry;
 use memory::refusals::Fault;
-use memory::verdicts::Verdict;
-use memory::verdicts::verdict_number;
-use std::test::*;
+use memory::verdicts::{Verdict, verdict_number};
+use std::process::Abort;
 use wire::faults::RunFault;
 
 pub type ScCase = Case<Sc, GlobalClock>;
@@ -31,20 +26,18 @@ pub const OLD: u8 = 0xaa;
 
 // Two processors, all readings 10 and 90: two stores on the first, two loads on the second.
 pub const MESSAGE: [u8; 141] = [
-    0x01, 0, 3, 2, 1, 1,
-    0x02, 0, 30, 0, 2, 0, 0, 0, 16, 0, 0, 0, 0, 0, 0, 0, 1, 0, 0, 0, 0, 0, 0, 0, 10, 0, 0, 0, 0, 0, 0, 0, 90,
-    0x02, 0, 30, 0, 2, 0, 0, 0, 32, 0, 0, 0, 0, 0, 0, 0, 1, 0, 0, 0, 0, 0, 0, 0, 10, 0, 0, 0, 0, 0, 0, 0, 90,
-    0x02, 0, 30, 1, 1, 0, 0, 0, 32, 0, 0, 0, 0, 0, 0, 0, 1, 0, 0, 0, 0, 0, 0, 0, 10, 0, 0, 0, 0, 0, 0, 0, 90,
-    0x02, 0, 30, 1, 1, 0, 0, 0, 16, 0, 0, 0, 0, 0, 0, 0, 0, 0, 0, 0, 0, 0, 0, 0, 10, 0, 0, 0, 0, 0, 0, 0, 90,
-    0x03, 0, 0,
+    0x01, 0, 3, 2, 1, 1, 0x02, 0, 30, 0, 2, 0, 0, 0, 16, 0, 0, 0, 0, 0, 0, 0, 1, 0, 0, 0, 0, 0, 0,
+    0, 10, 0, 0, 0, 0, 0, 0, 0, 90, 0x02, 0, 30, 0, 2, 0, 0, 0, 32, 0, 0, 0, 0, 0, 0, 0, 1, 0, 0,
+    0, 0, 0, 0, 0, 10, 0, 0, 0, 0, 0, 0, 0, 90, 0x02, 0, 30, 1, 1, 0, 0, 0, 32, 0, 0, 0, 0, 0, 0,
+    0, 1, 0, 0, 0, 0, 0, 0, 0, 10, 0, 0, 0, 0, 0, 0, 0, 90, 0x02, 0, 30, 1, 1, 0, 0, 0, 16, 0, 0,
+    0, 0, 0, 0, 0, 0, 0, 0, 0, 0, 0, 0, 0, 10, 0, 0, 0, 0, 0, 0, 0, 90, 0x03, 0, 0,
 ];
 
 // One processor: a store of 1, and a load of 7 that nobody wrote.
 pub const ORPHAN: [u8; 75] = [
-    0x01, 0, 3, 1, 1, 1,
-    0x02, 0, 30, 0, 2, 0, 0, 0, 16, 0, 0, 0, 0, 0, 0, 0, 1, 0, 0, 0, 0, 0, 0, 0, 0, 0, 0, 0, 0, 0, 0, 0, 5,
-    0x02, 0, 30, 0, 1, 0, 0, 0, 16, 0, 0, 0, 0, 0, 0, 0, 7, 0, 0, 0, 0, 0, 0, 0, 10, 0, 0, 0, 0, 0, 0, 0, 20,
-    0x03, 0, 0,
+    0x01, 0, 3, 1, 1, 1, 0x02, 0, 30, 0, 2, 0, 0, 0, 16, 0, 0, 0, 0, 0, 0, 0, 1, 0, 0, 0, 0, 0, 0,
+    0, 0, 0, 0, 0, 0, 0, 0, 0, 5, 0x02, 0, 30, 0, 1, 0, 0, 0, 16, 0, 0, 0, 0, 0, 0, 0, 7, 0, 0, 0,
+    0, 0, 0, 0, 10, 0, 0, 0, 0, 0, 0, 0, 20, 0x03, 0, 0,
 ];
 
 pub const EMPTY: [u8; 9] = [0x01, 0, 3, 2, 1, 1, 0x03, 0, 0];
@@ -112,24 +105,22 @@ pub fn numbers(line: Line) -> Numbers {
 }
 
 // The lines are these, in this order.
-pub fn are_lines(lines: &[Line], rows: &[Numbers]) -> Result<(), Fail> {
-    check_eq(lines.len(), rows.len())?;
+pub fn are_lines(rt: &impl Abort, lines: &[Line], rows: &[Numbers]) {
+    assert_eq!(rt; lines.len(), rows.len());
     for (i, (line, row)) in lines.iter().zip(rows).enumerate() {
-        check_eq(numbers(*line), *row).note(format_args!("line {i}"))?;
+        assert_eq!(rt; numbers(*line), *row, "line {i}");
     }
-    Ok(())
 }
 
 // The case has listed these lines.
-pub fn has_lines<M: Model, C: Clock>(case: &Case<M, C>, rows: &[Numbers]) -> Result<(), Fail> {
-    are_lines(case.standing().lines, rows)
+pub fn has_lines<M: Model, C: Clock>(rt: &impl Abort, case: &Case<M, C>, rows: &[Numbers]) {
+    are_lines(rt, case.standing().lines, rows);
 }
 
-pub fn is_old(bytes: &[u8]) -> Result<(), Fail> {
+pub fn is_old(rt: &impl Abort, bytes: &[u8]) {
     for b in bytes {
-        check_eq(*b, OLD)?;
+        assert_eq!(rt; *b, OLD);
     }
-    Ok(())
 }
 
 // An entry with readings 10 and 90.
@@ -151,7 +142,7 @@ pub fn counts(case: &ScCase) -> (u8, usize) {
 }
 
 // Admits row after row, and compares what is told.
-pub fn admit_rows<M: Model, C: Clock>(case: &mut Case<M, C>, rows: &[Row]) -> Result<(), Fail> {
+pub fn admit_rows<M: Model, C: Clock>(rt: &impl Abort, case: &mut Case<M, C>, rows: &[Row]) {
     for (i, row) in rows.iter().enumerate() {
         let ((processor, kind, address, value, enter, commit), want) = *row;
         let e = Entry {
@@ -162,7 +153,6 @@ pub fn admit_rows<M: Model, C: Clock>(case: &mut Case<M, C>, rows: &[Row]) -> Re
             enter,
             commit,
         };
-        check_eq(admitted(case.admit(e)), want).note(format_args!("row {i}"))?;
+        assert_eq!(rt; admitted(case.admit(e)), want, "row {i}");
     }
-    Ok(())
 }

@@ -1,31 +1,15 @@
 // The bytes that a case writes, and what it refuses to write.
-use crate::tools::ScCase;
-use crate::tools::EMPTY;
-use crate::tools::MESSAGE;
-use crate::tools::OLD;
-use crate::tools::ORPHAN;
-use crate::tools::Row;
-use crate::tools::admit_rows;
-use crate::tools::counts;
-use crate::tools::is_old;
-use crate::tools::loaded;
-use crate::tools::opened;
-use crate::tools::sealed;
-use crate::tools::written;
+use crate::tools::{
+    EMPTY, MESSAGE, OLD, ORPHAN, Row, ScCase, admit_rows, counts, is_old, loaded, opened, sealed,
+    written,
+};
 use case::cases::Case;
 use loading::load;
-use memory::clocks::GlobalClock;
-use memory::clocks::GlobalTime;
-use memory::clocks::NoClock;
-use memory::clocks::NoTime;
-use memory::models::Godson;
-use memory::models::GodsonModel;
-use memory::models::Sc;
-use memory::models::ScModel;
-use std::test::*;
-use writing::write_paper;
-use writing::write_run;
-use writing::write_slip;
+use memory::clocks::{GlobalClock, NoClock};
+use memory::models::{Godson, Sc};
+use std::process::Abort;
+use std::test::Fail;
+use writing::{write_paper, write_run, write_slip};
 
 const ORPHANED: [Row; 2] = [
     ((0, 2, 16, 1, 0, 5), (0, 0, 1)),
@@ -33,141 +17,195 @@ const ORPHANED: [Row; 2] = [
 ];
 
 #[test]
-fn run_slip_and_paper_are_these_bytes_and_the_rest_is_kept(rt: LibcRuntime) -> Result<(), Fail> {
+fn run_slip_and_paper_are_these_bytes_and_the_rest_is_kept(rt: HostRuntime) -> Result<(), Fail> {
     let mut case = ScCase::new(rt.alloc(), Sc, GlobalClock)?;
-    admit_rows(&mut case, &ORPHANED)?;
+    admit_rows(&rt, &mut case, &ORPHANED);
     let mut out = [OLD; 80];
-    check_eq(written(write_run(&case, &mut out)), (0, 0, 75))?;
-    check_eq(&out[0..75], &ORPHAN[..])?;
-    is_old(&out[75..80])?;
+    assert_eq!(rt; written(write_run(&case, &mut out)), (0, 0, 75));
+    assert_eq!(rt; &out[0..75], &ORPHAN[..]);
+    is_old(&rt, &out[75..80]);
     let mut out = [OLD; 20];
-    check_eq(written(write_slip(&case, &mut out)), (0, 0, 12))?;
-    check_eq(&out[0..12], &[0x1d, 0, 9, 0, 0, 0, 0, 0, 0, 0, 0, 0][..])?;
-    check_eq(sealed(case.seal()), (0, 0, 203))?;
-    check_eq(written(write_slip(&case, &mut out)), (0, 0, 12))?;
-    check_eq(&out[0..12], &[0x1d, 0, 9, 3, 0, 0, 0, 0, 0, 0, 0, 0][..])?;
-    is_old(&out[12..20])?;
-    check_eq(written(write_paper(&case, &mut out)), (0, 0, 14))?;
-    check_eq(&out[0..14], &[0x10, 0, 4, 3, 1, 1, 2, 0x13, 0, 1, 2, 0x1f, 0, 0][..])?;
-    is_old(&out[14..20])
+    assert_eq!(rt; written(write_slip(&case, &mut out)), (0, 0, 12));
+    assert_eq!(rt; &out[0..12], &[0x1d, 0, 9, 0, 0, 0, 0, 0, 0, 0, 0, 0][..]);
+    assert_eq!(rt; sealed(case.seal()), (0, 0, 203));
+    assert_eq!(rt; written(write_slip(&case, &mut out)), (0, 0, 12));
+    assert_eq!(rt; &out[0..12], &[0x1d, 0, 9, 3, 0, 0, 0, 0, 0, 0, 0, 0][..]);
+    is_old(&rt, &out[12..20]);
+    assert_eq!(rt; written(write_paper(&case, &mut out)), (0, 0, 14));
+    assert_eq!(rt;
+        &out[0..14],
+        &[0x10, 0, 4, 3, 1, 1, 2, 0x13, 0, 1, 2, 0x1f, 0, 0][..]
+    );
+    is_old(&rt, &out[14..20]);
+    Ok(())
 }
 
 #[test]
-fn one_byte_too_few_is_refused_and_nothing_is_written(rt: LibcRuntime) -> Result<(), Fail> {
+fn one_byte_too_few_is_refused_and_nothing_is_written(rt: HostRuntime) -> Result<(), Fail> {
     let mut case = ScCase::new(rt.alloc(), Sc, GlobalClock)?;
-    check_eq(loaded(load(&mut case, &ORPHAN)), (0, 0, 203))?;
+    assert_eq!(rt; loaded(load(&mut case, &ORPHAN)), (0, 0, 203));
     let mut run = [OLD; 74];
-    check_eq(written(write_run(&case, &mut run)), (15, 2, 3))?;
-    is_old(&run)?;
+    assert_eq!(rt; written(write_run(&case, &mut run)), (15, 2, 3));
+    is_old(&rt, &run);
     let mut slip = [OLD; 11];
-    check_eq(written(write_slip(&case, &mut slip)), (15, 2, 3))?;
-    is_old(&slip)?;
+    assert_eq!(rt; written(write_slip(&case, &mut slip)), (15, 2, 3));
+    is_old(&rt, &slip);
     let mut paper = [OLD; 13];
-    check_eq(written(write_paper(&case, &mut paper)), (15, 2, 3))?;
-    is_old(&paper)?;
-    check_eq(written(write_run(&case, &mut [])), (15, 2, 3))?;
+    assert_eq!(rt; written(write_paper(&case, &mut paper)), (15, 2, 3));
+    is_old(&rt, &paper);
+    assert_eq!(rt; written(write_run(&case, &mut [])), (15, 2, 3));
     // exactly enough
-    check_eq(written(write_run(&case, &mut [OLD; 75])), (0, 0, 75))?;
-    check_eq(written(write_slip(&case, &mut [OLD; 12])), (0, 0, 12))?;
-    check_eq(written(write_paper(&case, &mut [OLD; 14])), (0, 0, 14))
+    assert_eq!(rt; written(write_run(&case, &mut [OLD; 75])), (0, 0, 75));
+    assert_eq!(rt; written(write_slip(&case, &mut [OLD; 12])), (0, 0, 12));
+    assert_eq!(rt; written(write_paper(&case, &mut [OLD; 14])), (0, 0, 14));
+    Ok(())
 }
 
 // Too few bytes come after it.
 #[test]
-fn an_undecided_case_has_no_paper(rt: LibcRuntime) -> Result<(), Fail> {
+fn an_undecided_case_has_no_paper(rt: HostRuntime) -> Result<(), Fail> {
     let mut case = ScCase::new(rt.alloc(), Sc, GlobalClock)?;
     let mut out = [OLD; 40];
-    check_eq(written(write_paper(&case, &mut out)), (14, 2, 1))?;
-    check_eq(written(write_paper(&case, &mut [])), (14, 2, 1))?;
-    check_eq(loaded(load(&mut case, &MESSAGE)), (0, 0, 0))?;
-    check_eq(written(write_paper(&case, &mut out)), (14, 2, 5))?;
-    check_eq(written(write_paper(&case, &mut [])), (14, 2, 5))?;
-    is_old(&out)
+    assert_eq!(rt; written(write_paper(&case, &mut out)), (14, 2, 1));
+    assert_eq!(rt; written(write_paper(&case, &mut [])), (14, 2, 1));
+    assert_eq!(rt; loaded(load(&mut case, &MESSAGE)), (0, 0, 0));
+    assert_eq!(rt; written(write_paper(&case, &mut out)), (14, 2, 5));
+    assert_eq!(rt; written(write_paper(&case, &mut [])), (14, 2, 5));
+    is_old(&rt, &out);
+    Ok(())
 }
 
 // Loads a run and writes it.
-fn comes_back(case: &mut ScCase, run: &[u8]) -> Result<(), Fail> {
+fn comes_back(rt: &impl Abort, case: &mut ScCase, run: &[u8]) {
     let mut out = [OLD; 200];
-    check(load(case, run).is_ok())?;
-    check(run.len() < 200)?;
-    check_eq(written(write_run(case, &mut out)), (0, 0, run.len()))?;
-    check_eq(&out[0..run.len()], run)
+    assert!(rt; load(case, run).is_ok());
+    assert!(rt; run.len() < 200);
+    assert_eq!(rt; written(write_run(case, &mut out)), (0, 0, run.len()));
+    assert_eq!(rt; &out[0..run.len()], run);
 }
 
 // All bytes of every number differ, up to the largest that pass.
 const WIDE: [Row; 4] = [
-    ((15, 2, 0x01020304, 0x1112131415161718, 0x2122232425262728, 0x3132333435363738), (0, 0, 1)),
-    ((15, 1, 0x01020304, 0x1112131415161718, 4611686018427387903, 4611686018427387903), (0, 0, 2)),
+    (
+        (
+            15,
+            2,
+            0x01020304,
+            0x1112131415161718,
+            0x2122232425262728,
+            0x3132333435363738,
+        ),
+        (0, 0, 1),
+    ),
+    (
+        (
+            15,
+            1,
+            0x01020304,
+            0x1112131415161718,
+            4611686018427387903,
+            4611686018427387903,
+        ),
+        (0, 0, 2),
+    ),
     ((0, 3, 0, 0, 0, 0), (0, 0, 3)),
     ((0, 2, 4294967295, 18446744073709551615, 0, 1), (0, 0, 4)),
 ];
 
 #[test]
-fn a_run_is_written_as_it_was_loaded_and_loads_as_it_was_written(rt: LibcRuntime) -> Result<(), Fail> {
+fn a_run_is_written_as_it_was_loaded_and_loads_as_it_was_written(
+    rt: HostRuntime,
+) -> Result<(), Fail> {
     let mut case = ScCase::new(rt.alloc(), Sc, GlobalClock)?;
-    comes_back(&mut case, &MESSAGE)?;
-    comes_back(&mut case, &ORPHAN)?;
-    comes_back(&mut case, &EMPTY)?;
-    check_eq(opened(case.open(16)), (0, 0, 0))?;
-    admit_rows(&mut case, &WIDE)?;
+    comes_back(&rt, &mut case, &MESSAGE);
+    comes_back(&rt, &mut case, &ORPHAN);
+    comes_back(&rt, &mut case, &EMPTY);
+    assert_eq!(rt; opened(case.open(16)), (0, 0, 0));
+    admit_rows(&rt, &mut case, &WIDE);
     let mut out = [OLD; 141];
-    check_eq(written(write_run(&case, &mut out)), (0, 0, 141))?;
-    check_eq(&out[0..6], &[1, 0, 3, 16, 1, 1][..])?;
-    check_eq(&out[9..23], &[15, 2, 1, 2, 3, 4, 0x11, 0x12, 0x13, 0x14, 0x15, 0x16, 0x17, 0x18][..])?;
+    assert_eq!(rt; written(write_run(&case, &mut out)), (0, 0, 141));
+    assert_eq!(rt; &out[0..6], &[1, 0, 3, 16, 1, 1][..]);
+    assert_eq!(rt;
+        &out[9..23],
+        &[
+            15, 2, 1, 2, 3, 4, 0x11, 0x12, 0x13, 0x14, 0x15, 0x16, 0x17, 0x18
+        ][..]
+    );
     let mut other = ScCase::new(rt.alloc(), Sc, GlobalClock)?;
-    comes_back(&mut other, &out)?;
-    check_eq(counts(&other), (16, 4))
+    comes_back(&rt, &mut other, &out);
+    assert_eq!(rt; counts(&other), (16, 4));
+    Ok(())
 }
 
 #[test]
-fn what_a_refused_loading_leaves_is_written(rt: LibcRuntime) -> Result<(), Fail> {
+fn what_a_refused_loading_leaves_is_written(rt: HostRuntime) -> Result<(), Fail> {
     let mut case = ScCase::new(rt.alloc(), Sc, GlobalClock)?;
     let mut out = [OLD; 75];
     let mut bytes = MESSAGE;
-    check_eq(loaded(load(&mut case, &ORPHAN)), (0, 0, 203))?;
+    assert_eq!(rt; loaded(load(&mut case, &ORPHAN)), (0, 0, 203));
     // a head: the case as it was
     bytes[3] = 17;
-    check_eq(loaded(load(&mut case, &bytes)), (7, 2, 0))?;
-    check_eq(written(write_run(&case, &mut out)), (0, 0, 75))?;
-    check_eq(&out[..], &ORPHAN[..])?;
+    assert_eq!(rt; loaded(load(&mut case, &bytes)), (7, 2, 0));
+    assert_eq!(rt; written(write_run(&case, &mut out)), (0, 0, 75));
+    assert_eq!(rt; &out[..], &ORPHAN[..]);
     // the third record: the two before it
     bytes[3] = 2;
     bytes[75] = 2;
-    check_eq(loaded(load(&mut case, &bytes)), (7, 2, 72))?;
-    check_eq(written(write_run(&case, &mut out)), (0, 0, 75))?;
-    check_eq(&out[0..72], &MESSAGE[0..72])?;
-    check_eq(&out[72..75], &MESSAGE[138..141])
+    assert_eq!(rt; loaded(load(&mut case, &bytes)), (7, 2, 72));
+    assert_eq!(rt; written(write_run(&case, &mut out)), (0, 0, 75));
+    assert_eq!(rt; &out[0..72], &MESSAGE[0..72]);
+    assert_eq!(rt; &out[72..75], &MESSAGE[138..141]);
+    Ok(())
 }
 
 #[test]
-fn a_case_writes_and_takes_only_the_marks_of_its_model_and_clock(rt: LibcRuntime) -> Result<(), Fail> {
+fn a_case_writes_and_takes_only_the_marks_of_its_model_and_clock(
+    rt: HostRuntime,
+) -> Result<(), Fail> {
     let mut case = Case::new(rt.alloc(), Godson, NoClock)?;
     let mut out = [OLD; 20];
-    check_eq(written(write_run(&case, &mut out)), (0, 0, 9))?;
-    check_eq(&out[0..9], &[1, 0, 3, 1, 3, 3, 3, 0, 0][..])?;
-    check_eq(loaded(load(&mut case, &out[0..9])), (0, 0, 1))?;
-    check_eq(loaded(load(&mut case, &EMPTY)), (2, 2, 0))?;
-    check_eq(loaded(load(&mut case, &[1, 0, 3, 2, 3, 1, 3, 0, 0])), (2, 2, 0))?;
-    check_eq(loaded(load(&mut case, &[1, 0, 3, 2, 1, 3, 3, 0, 0])), (2, 2, 0))?;
-    check_eq(case.standing().processors, 1)?;
-    check_eq(loaded(load(&mut case, &[1, 0, 3, 2, 3, 3, 3, 0, 0])), (0, 0, 1))?;
-    check_eq(case.standing().processors, 2)
+    assert_eq!(rt; written(write_run(&case, &mut out)), (0, 0, 9));
+    assert_eq!(rt; &out[0..9], &[1, 0, 3, 1, 3, 3, 3, 0, 0][..]);
+    assert_eq!(rt; loaded(load(&mut case, &out[0..9])), (0, 0, 1));
+    assert_eq!(rt; loaded(load(&mut case, &EMPTY)), (2, 2, 0));
+    assert_eq!(rt;
+        loaded(load(&mut case, &[1, 0, 3, 2, 3, 1, 3, 0, 0])),
+        (2, 2, 0)
+    );
+    assert_eq!(rt;
+        loaded(load(&mut case, &[1, 0, 3, 2, 1, 3, 3, 0, 0])),
+        (2, 2, 0)
+    );
+    assert_eq!(rt; case.standing().processors, 1);
+    assert_eq!(rt;
+        loaded(load(&mut case, &[1, 0, 3, 2, 3, 3, 3, 0, 0])),
+        (0, 0, 1)
+    );
+    assert_eq!(rt; case.standing().processors, 2);
+    Ok(())
 }
 
 // Under each pair of marks, with one byte too few first.
 #[test]
-fn the_paper_of_an_empty_run_is_an_empty_order(rt: LibcRuntime) -> Result<(), Fail> {
+fn the_paper_of_an_empty_run_is_an_empty_order(rt: HostRuntime) -> Result<(), Fail> {
     let mut case = ScCase::new(rt.alloc(), Sc, GlobalClock)?;
-    check_eq(loaded(load(&mut case, &EMPTY)), (0, 0, 1))?;
-    check_eq(written(write_paper(&case, &mut [OLD; 12])), (15, 2, 1))?;
+    assert_eq!(rt; loaded(load(&mut case, &EMPTY)), (0, 0, 1));
+    assert_eq!(rt; written(write_paper(&case, &mut [OLD; 12])), (15, 2, 1));
     let mut out = [OLD; 16];
-    check_eq(written(write_paper(&case, &mut out)), (0, 0, 13))?;
-    check_eq(&out[0..13], &[0x10, 0, 4, 1, 1, 1, 0, 0x12, 0, 0, 0x1f, 0, 0][..])?;
-    is_old(&out[13..16])?;
+    assert_eq!(rt; written(write_paper(&case, &mut out)), (0, 0, 13));
+    assert_eq!(rt;
+        &out[0..13],
+        &[0x10, 0, 4, 1, 1, 1, 0, 0x12, 0, 0, 0x1f, 0, 0][..]
+    );
+    is_old(&rt, &out[13..16]);
     let mut case = Case::new(rt.alloc(), Godson, NoClock)?;
-    check_eq(sealed(case.seal()), (0, 0, 1))?;
-    check_eq(written(write_paper(&case, &mut out)), (0, 0, 13))?;
-    check_eq(&out[0..13], &[0x10, 0, 4, 1, 3, 3, 0, 0x12, 0, 0, 0x1f, 0, 0][..])?;
-    check_eq(written(write_slip(&case, &mut out)), (0, 0, 12))?;
-    check_eq(&out[0..12], &[0x1d, 0, 9, 1, 0, 0, 0, 0, 0, 0, 0, 0][..])
+    assert_eq!(rt; sealed(case.seal()), (0, 0, 1));
+    assert_eq!(rt; written(write_paper(&case, &mut out)), (0, 0, 13));
+    assert_eq!(rt;
+        &out[0..13],
+        &[0x10, 0, 4, 1, 3, 3, 0, 0x12, 0, 0, 0x1f, 0, 0][..]
+    );
+    assert_eq!(rt; written(write_slip(&case, &mut out)), (0, 0, 12));
+    assert_eq!(rt; &out[0..12], &[0x1d, 0, 9, 1, 0, 0, 0, 0, 0, 0, 0, 0][..]);
+    Ok(())
 }

@@ -1,12 +1,8 @@
 -- A whole field at a place of the bytes, or none. Assumes nothing.
-use mathlib.Core.Path.{_≡_}
-use mathlib.Core.List.{List, _∷_, _++_}
-use Prim.Native.Nat.{ℕ, _+_, _≤_}
-use lib.ListN.{length, drop}
-use Rattle·std.specs.declared.result.Result.the-variants.{Err}
-use Rattle·wire·specs.declared.fields.Text.{Text}
-use Rattle·wire·specs.Bytes.{field}
-use Rattle·wire·specs.Fields.{whole, pieces, next-field, fault-at}
+use Rattle.std.specs.Prelude.{◌≡◌, ℕ, ◌+◌, ◌≤◌, List, ◌∷◌, ◌++◌, length, drop, Err}
+use Rattle.wire.specs.declared.fields.Text.{Text}
+use Rattle.wire.specs.Bytes.{field}
+use Rattle.wire.specs.Fields.{whole, pieces, next_field, fault_at}
 
 -- a field with this tag and content stands at the place
 pub record Framed (bs : List ℕ) (at tag : ℕ) (content : List ℕ) : Type 0 where
@@ -16,4 +12,4 @@ pub record Framed (bs : List ℕ) (at tag : ℕ) (content : List ℕ) : Type 0 w
 
 -- no field does
 abbrev pub Unframed : List ℕ → ℕ → Type 0
-Unframed bs at = (t : Text) → next-field t at (pieces (drop at bs)) ≡ Err (fault-at at)
+Unframed bs at = (t : Text) → next_field t at (pieces (drop at bs)) ≡ Err (fault_at at)

@@ -1,10 +1,9 @@
 // What can be wrong with bytes, and with a run in bytes. A fault keeps its refusal and its place on its way up.
-ghost use mathlib.Core.Path.{_≡_};
-ghost use Rattle·wire·specs.Faults.{run-fault};
-ghost use Rattle·wire·specs.declared.faults.RunFault.the-variants.{Bytes};
-use memory::refusals::Fault;
-use memory::refusals::Layer;
-use memory::refusals::Refusal;
+ghost use Rattle.std.specs.Prelude.{◌≡◌};
+ghost use Rattle.wire.specs.Faults.{run_fault};
+ghost use Rattle.wire.specs.declared.faults.RunFault.TheVariants.{Bytes};
+
+use memory::refusals::{Fault, Layer, Refusal};
 
 // No field of the text stands at this place.
 #[derive(Clone, Copy)]
@@ -19,8 +18,8 @@ pub enum RunFault {
     Content { refusal: Refusal, place: usize },
 }
 
-pub impl From<ByteFault> for RunFault as RunFromBytes {
-    ghost converts = { λ e r. r ≡ Bytes e };
+impl From<ByteFault> for RunFault {
+    ghost from_gives = { λ e r. r ≡ Bytes e };
 
     fn from(fault: ByteFault) -> RunFault {
         RunFault::Bytes(fault)
@@ -30,7 +29,7 @@ pub impl From<ByteFault> for RunFault as RunFromBytes {
 impl RunFault {
     // The refusal, its layer and its place.
     pub fn fault(self) -> Fault
-        ensures { λ r. ⌜ r ≡ run-fault self ⌝ }
+        ensures { result ≡ run_fault self }
     {
         match self {
             RunFault::Bytes(e) => Fault {

@@ -1,6 +1,5 @@
 // The reader and the fields that it hands on.
-ghost use Prim.Native.Nat.{_≤_};
-ghost use lib.ListN.{length};
+ghost use Rattle.std.specs.Prelude.{◌≤◌, length};
 
 mod decode;
 mod walk;
@@ -43,5 +42,5 @@ pub struct Reader<'a> {
     bytes: &'a [u8],
     at: usize,
     text: Text,
-    ghost within: { at ≤ length (bytes .now) },
+    ghost within: { at ≤ length bytes.now },
 }

@@ -1,20 +1,16 @@
 // Encoders into lent bytes. Where the bytes are too few, nothing is written.
-ghost use mathlib.Core.Path.{_≡_};
-ghost use mathlib.Core.List.{[], _∷_};
-ghost use Prim.Native.Nat.{_+_, _*_, _≤_};
-ghost use lib.Dec.{leb};
-ghost use lib.ListN.{length};
-ghost use Rattle·memory.specs.Admission.{logged};
-ghost use Rattle·memory.specs.Numbers.{rule-number, verdict-number, refusal-number, layer-number};
-ghost use Rattle·wire·specs.Bytes.{digits, field, all-of, entry-bytes, record-field, lines-body, run-bytes, slip-bytes, paper-bytes, notice-bytes};
-ghost use Rattle·wire·specs.Written.{over, Written, paper-number, paper-body};
+ghost use Rattle.std.specs.Prelude.{◌≡◌, ◌+◌, ◌*◌, ◌≤◌, [], ◌∷◌, length, nat_le};
+ghost use Rattle.memory.specs.Admission.{logged};
+ghost use Rattle.memory.specs.Numbers.{rule_number, verdict_number, refusal_number, layer_number};
+ghost use Rattle.wire.specs.Bytes.{digits, field, all_of, entry_bytes, record_field, lines_body, run_bytes, slip_bytes, paper_bytes, notice_bytes};
+ghost use Rattle.wire.specs.Written.{over, Written, paper_number, paper_body};
+
 use crate::fields::RunHead;
 use crate::tags;
 use memory::lines::Line;
 use memory::records::Record;
 use memory::refusals::Fault;
-use memory::verdicts::Verdict;
-use memory::verdicts::verdict_number;
+use memory::verdicts::{Verdict, verdict_number};
 
 // The lent bytes are too few.
 #[derive(Clone, Copy)]
@@ -37,17 +33,17 @@ pub struct PaperHead {
 }
 
 fn put(out: &mut [u8], at: usize, bytes: &[u8])
-    requires { ⌜ at + length (now bytes) ≤ length (now out) ⌝ }
-    ensures { λ _. ⌜ now (out .exit) ≡ over (now (out .entry)) at (now (bytes .entry)) ⌝ }
+    requires { at + length bytes.now ≤ length out.old }
+    ensures { out.new ≡ over out.old at bytes.now }
 {
     out[at..at + bytes.len()].copy_from_slice(bytes);
 }
 
 // Writes a field, and answers the place behind it.
 fn put_field(out: &mut [u8], at: usize, tag: u8, content: &[u8]) -> usize
-    requires { ⌜ at + 3 + length (now content) ≤ length (now out) ⌝ }
-    ensures end { λ r. ⌜ r ≡ at + 3 + length (now (content .entry)) ⌝ }
-    ensures bytes { λ _. ⌜ now (out .exit) ≡ over (now (out .entry)) at (field tag (now (content .entry))) ⌝ }
+    requires { at + 3 + length content.now ≤ length out.old }
+    ensures end { result ≡ at + 3 + length content.now }
+    ensures bytes { out.new ≡ over out.old at (field tag content.now) }
 {
     let [high, low] = ((content.len() % 65536) as u16).to_be_bytes();
     put(out, at, &[tag, high, low]);
@@ -56,7 +52,7 @@ fn put_field(out: &mut [u8], at: usize, tag: u8, content: &[u8]) -> usize
 }
 
 fn record_content(r: Record) -> [u8; 30]
-    ensures { λ bytes. ⌜ bytes ≡ entry-bytes (logged r) ⌝ }
+    ensures { result ≡ entry_bytes (logged r) }
 {
     let mut content = [0; 30];
     put(&mut content, 0, &[r.processor, r.kind.number()]);
@@ -68,9 +64,9 @@ fn record_content(r: Record) -> [u8; 30]
 }
 
 fn put_records(out: &mut [u8], start: usize, records: &[Record]) -> usize
-    requires { ⌜ start + 33 * length (now records) ≤ length (now out) ⌝ }
-    ensures end { λ r. ⌜ r ≡ start + 33 * length (now (records .entry)) ⌝ }
-    ensures bytes { λ _. ⌜ now (out .exit) ≡ over (now (out .entry)) start (all-of record-field (now (records .entry))) ⌝ }
+    requires { start + 33 * length records.now ≤ length out.old }
+    ensures end { result ≡ start + 33 * length records.now }
+    ensures bytes { out.new ≡ over out.old start (all_of record_field records.now) }
 {
     let mut at = start;
     for r in records {
@@ -81,14 +77,14 @@ fn put_records(out: &mut [u8], start: usize, records: &[Record]) -> usize
 
 // So many bytes hold a run of so many records.
 fn run_fits(room: usize, records: usize) -> bool
-    ensures { λ r. ⌜ r ≡ leb (9 + 33 * records) room ⌝ }
+    ensures { result ≡ nat_le (9 + 33 * records) room }
 {
     room >= 9 && records <= (room - 9) / 33
 }
 
 // A head, the records, an end.
 pub fn write_run(out: &mut [u8], head: RunHead, records: &[Record]) -> Result<usize, TooShort>
-    ensures { λ r. ⌜ Written (run-bytes (head .processors) (head .model) (head .clock) (now (records .entry))) (now (out .entry)) (now (out .exit)) r ⌝ }
+    ensures { Written (run_bytes head.processors head.model head.clock records.now) out.old out.new result }
 {
     if !run_fits(out.len(), records.len()) {
         return Err(TooShort);
@@ -104,7 +100,7 @@ pub fn write_run(out: &mut [u8], head: RunHead, records: &[Record]) -> Result<us
 }
 
 fn slip_content(verdict: Option<Verdict>, steps: u64) -> [u8; 9]
-    ensures { λ r. ⌜ r ≡ verdict-number verdict ∷ digits 8 steps ⌝ }
+    ensures { result ≡ verdict_number verdict ∷ digits 8 steps }
 {
     let mut content = [0; 9];
     put(&mut content, 0, &[verdict_number(verdict)]);
@@ -114,7 +110,7 @@ fn slip_content(verdict: Option<Verdict>, steps: u64) -> [u8; 9]
 
 // The verdict and the total of steps.
 pub fn write_slip(out: &mut [u8], verdict: Option<Verdict>, steps: u64) -> Result<usize, TooShort>
-    ensures { λ r. ⌜ Written (slip-bytes verdict steps) (now (out .entry)) (now (out .exit)) r ⌝ }
+    ensures { Written (slip_bytes verdict steps) out.old out.new result }
 {
     if out.len() < 12 {
         return Err(TooShort);
@@ -123,15 +119,15 @@ pub fn write_slip(out: &mut [u8], verdict: Option<Verdict>, steps: u64) -> Resul
 }
 
 fn line_content(line: Line) -> [u8; 4]
-    ensures { λ r. ⌜ r ≡ rule-number (line .rule) ∷ line .first ∷ line .second ∷ line .third ∷ [] ⌝ }
+    ensures { result ≡ rule_number line.rule ∷ line.first ∷ line.second ∷ line.third ∷ [] }
 {
     [line.rule.number(), line.first, line.second, line.third]
 }
 
 fn put_lines(out: &mut [u8], start: usize, lines: &[Line]) -> usize
-    requires { ⌜ start + length (lines-body (now lines)) ≤ length (now out) ⌝ }
-    ensures end { λ r. ⌜ r ≡ start + length (lines-body (now (lines .entry))) ⌝ }
-    ensures bytes { λ _. ⌜ now (out .exit) ≡ over (now (out .entry)) start (lines-body (now (lines .entry))) ⌝ }
+    requires { start + length (lines_body lines.now) ≤ length out.old }
+    ensures end { result ≡ start + length (lines_body lines.now) }
+    ensures bytes { out.new ≡ over out.old start (lines_body lines.now) }
 {
     let mut at = start;
     for line in lines {
@@ -142,14 +138,14 @@ fn put_lines(out: &mut [u8], start: usize, lines: &[Line]) -> usize
 
 // So many bytes hold a paper of so many lines.
 fn lines_fit(room: usize, lines: usize) -> bool
-    ensures { λ r. ⌜ r ≡ leb (10 + 7 * lines) room ⌝ }
+    ensures { result ≡ nat_le (10 + 7 * lines) room }
 {
     room >= 10 && lines <= (room - 10) / 7
 }
 
 impl Paper<'_> {
     fn number(self) -> u8
-        ensures { λ r. ⌜ r ≡ paper-number (self .entry) ⌝ }
+        ensures { result ≡ paper_number self.entry }
     {
         match self {
             Paper::Order(_) => 1,
@@ -160,7 +156,7 @@ impl Paper<'_> {
 
     // So many bytes hold the paper.
     fn fits(self, room: usize) -> bool
-        ensures { λ r. ⌜ r ≡ leb (10 + length (paper-body (self .entry))) room ⌝ }
+        ensures { result ≡ nat_le (10 + length (paper_body self.entry)) room }
     {
         match self {
             Paper::Order(order) => 13 + order.len() <= room,
@@ -170,9 +166,9 @@ impl Paper<'_> {
     }
 
     fn put_body(self, out: &mut [u8], at: usize) -> usize
-        requires { ⌜ at + length (paper-body self) ≤ length (now out) ⌝ }
-        ensures end { λ r. ⌜ r ≡ at + length (paper-body (self .entry)) ⌝ }
-        ensures bytes { λ _. ⌜ now (out .exit) ≡ over (now (out .entry)) at (paper-body (self .entry)) ⌝ }
+        requires { at + length (paper_body self) ≤ length out.old }
+        ensures end { result ≡ at + length (paper_body self.entry) }
+        ensures bytes { out.new ≡ over out.old at (paper_body self.entry) }
     {
         match self {
             Paper::Order(order) => put_field(out, at, tags::ORDER, order),
@@ -184,7 +180,7 @@ impl Paper<'_> {
 
 // A head, a body, an end.
 pub fn write_paper(out: &mut [u8], head: PaperHead, paper: Paper<'_>) -> Result<usize, TooShort>
-    ensures { λ r. ⌜ Written (paper-bytes (paper-number (paper .entry)) (head .model) (head .clock) (head .records) (paper-body (paper .entry))) (now (out .entry)) (now (out .exit)) r ⌝ }
+    ensures { Written (paper_bytes (paper_number paper.entry) head.model head.clock head.records (paper_body paper.entry)) out.old out.new result }
 {
     if !paper.fits(out.len()) {
         return Err(TooShort);
@@ -200,7 +196,7 @@ pub fn write_paper(out: &mut [u8], head: PaperHead, paper: Paper<'_>) -> Result<
 }
 
 fn notice_content(fault: Fault) -> [u8; 6]
-    ensures { λ r. ⌜ r ≡ refusal-number (fault .refusal) ∷ layer-number (fault .layer) ∷ digits 4 (fault .place) ⌝ }
+    ensures { result ≡ refusal_number fault.refusal ∷ layer_number fault.layer ∷ digits 4 fault.place }
 {
     let mut content = [0; 6];
     put(
@@ -218,7 +214,7 @@ fn notice_content(fault: Fault) -> [u8; 6]
 
 // The refusal's number, its layer and its place, of which four bytes are written.
 pub fn write_notice(out: &mut [u8], fault: Fault) -> Result<usize, TooShort>
-    ensures { λ r. ⌜ Written (notice-bytes fault) (now (out .entry)) (now (out .exit)) r ⌝ }
+    ensures { Written (notice_bytes fault) out.old out.new result }
 {
     if out.len() < 9 {
         return Err(TooShort);

@@ -1,23 +1,22 @@
 // Writing a case's run, slip and paper into lent bytes.
-ghost use lib.ListN.{length};
-ghost use Rattle·wire.specs.Bytes.{paper-bytes};
-ghost use Rattle·wire.specs.Written.{paper-number, paper-body};
-ghost use Rattle·case.specs.State.{State};
-ghost use Rattle·case.specs.Views.{view};
-ghost use Rattle·writing·specs.Reloading.{Reloads};
-ghost use Rattle·writing·specs.Writing.{run-in, slip-in, paper-in, Wrote, Wrote-some};
+ghost use Rattle.std.specs.Prelude.{length};
+ghost use Rattle.wire.specs.Bytes.{paper_bytes};
+ghost use Rattle.wire.specs.Written.{paper_number, paper_body};
+ghost use Rattle.case.specs.State.{State};
+ghost use Rattle.case.specs.Views.{view};
+ghost use Rattle.writing.specs.Reloading.{Reloads};
+ghost use Rattle.writing.specs.Writing.{run_in, slip_in, paper_in, Wrote, WroteSome};
+
 use case::cases::Case;
 use memory::clocks::Clock;
 use memory::models::Model;
-use memory::refusals::Fault;
-use memory::refusals::Refusal;
+use memory::refusals::{Fault, Refusal};
 use memory::verdicts::Verdict;
 use wire::fields::RunHead;
-use wire::writing::Paper;
-use wire::writing::PaperHead;
+use wire::writing::{Paper, PaperHead};
 
 fn put_run<M: Model, C: Clock>(case: &Case<M, C>, out: &mut [u8]) -> Result<usize, Fault>
-    ensures { λ r. ⌜ Wrote (view (now (case .entry))) (run-in (M·Model .mark) (C·Clock .mark) (view (now (case .entry)))) (now (out .entry)) (now (out .exit)) r ⌝ }
+    ensures { Wrote (view case.now) (run_in M.Model.mark C.Clock.mark (view case.now)) out.old out.new result }
 {
     let standing = case.standing();
     let head = RunHead {
@@ -33,15 +32,15 @@ fn put_run<M: Model, C: Clock>(case: &Case<M, C>, out: &mut [u8]) -> Result<usiz
 
 // The run, at any stage. It loads, in any case of this model and clock, as the same processors and records.
 pub fn write_run<M: Model, C: Clock>(case: &Case<M, C>, out: &mut [u8]) -> Result<usize, Fault>
-    ensures wrote { λ r. ⌜ Wrote (view (now (case .entry))) (run-in (M·Model .mark) (C·Clock .mark) (view (now (case .entry)))) (now (out .entry)) (now (out .exit)) r ⌝ }
-    ensures reloads { λ _. ⌜ ((before : State) → Reloads (M·Model .mark) (C·Clock .mark) before (view (now (case .entry))) (run-in (M·Model .mark) (C·Clock .mark) (view (now (case .entry))))) ⌝ }
+    ensures wrote { Wrote (view case.now) (run_in M.Model.mark C.Clock.mark (view case.now)) out.old out.new result }
+    ensures reloads { (before : State) → Reloads M.Model.mark C.Clock.mark before (view case.now) (run_in M.Model.mark C.Clock.mark (view case.now)) }
 {
     put_run(case, out)
 }
 
 // The verdict and the total of steps, at any stage.
 pub fn write_slip<M: Model, C: Clock>(case: &Case<M, C>, out: &mut [u8]) -> Result<usize, Fault>
-    ensures { λ r. ⌜ Wrote (view (now (case .entry))) (slip-in (view (now (case .entry)))) (now (out .entry)) (now (out .exit)) r ⌝ }
+    ensures { Wrote (view case.now) (slip_in (view case.now)) out.old out.new result }
 {
     let standing = case.standing();
     match wire::writing::write_slip(out, standing.stage.verdict(), standing.steps) {
@@ -55,7 +54,7 @@ fn put_paper<M: Model, C: Clock>(
     out: &mut [u8],
     paper: Paper<'_>,
 ) -> Result<usize, Fault>
-    ensures { λ r. ⌜ Wrote (view (now (case .entry))) (paper-bytes (paper-number (paper .entry)) (M·Model .mark) (C·Clock .mark) (length (view (now (case .entry)) .records)) (paper-body (paper .entry))) (now (out .entry)) (now (out .exit)) r ⌝ }
+    ensures { Wrote (view case.now) (paper_bytes (paper_number paper.entry) M.Model.mark C.Clock.mark (length (view case.now).records) (paper_body paper.entry)) out.old out.new result }
 {
     let head = PaperHead {
         model: M::own_mark(),
@@ -70,7 +69,7 @@ fn put_paper<M: Model, C: Clock>(
 
 // The paper, where the verdict has one.
 pub fn write_paper<M: Model, C: Clock>(case: &Case<M, C>, out: &mut [u8]) -> Result<usize, Fault>
-    ensures { λ r. ⌜ Wrote-some (view (now (case .entry))) (paper-in (M·Model .mark) (C·Clock .mark) (view (now (case .entry)))) (now (out .entry)) (now (out .exit)) r ⌝ }
+    ensures { WroteSome (view case.now) (paper_in M.Model.mark C.Clock.mark (view case.now)) out.old out.new result }
 {
     let standing = case.standing();
     match standing.stage.verdict() {

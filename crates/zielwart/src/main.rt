@@ -1,58 +1,49 @@
 // The checker as a program: a run's bytes on standard input, slip and paper or a notice on standard output.
+use anyhow::anyhow;
 use checker::answer;
-use intake::ROOM;
-use intake::Request;
-use intake::asked;
-use intake::read_input;
-use std::error::AnyError;
+use intake::{ROOM, Request, asked, read_input};
 use std::io::Write;
 use wire::tags;
 
 // Writes the answer; a notice is an error, so that the exit status tells of it.
-fn run(rt: &LibcRuntime) -> Result<(), AnyError> {
+fn run(rt: &HostRuntime) -> anyhow::Result<()> {
     let mut buffer = [0; ROOM];
     let came = read_input(rt, &mut buffer)?;
     let output = answer(rt.alloc(), &buffer[0..came])?;
     rt.stdout().write_all(output.as_slice())?;
     if output.first().copied() == Some(tags::NOTICE) {
-        return Err("the run is refused, and the notice says why".into());
+        return Err(anyhow!("the run is refused, and the notice says why"));
     }
     Ok(())
 }
 
-fn help(rt: &LibcRuntime) -> Result<(), AnyError> {
-    println!(rt, "usage: zielwart < RUN > ANSWER")?;
-    println!(
-        rt,
+fn help(rt: &HostRuntime) -> anyhow::Result<()> {
+    println!(rt; "usage: zielwart < RUN > ANSWER")?;
+    println!(rt;
         "Reads a run in bytes from standard input, of which the first 4,096 count, and writes its slip"
     )?;
-    println!(
-        rt,
+    println!(rt;
         "and its paper, if there is one, or a notice of the refusal, to standard output."
     )?;
-    println!(
-        rt,
-        "docs/FORMAT.md has the bytes; the program explain says the same in words."
-    )?;
-    println!(
-        rt,
+    println!(rt; "docs/FORMAT.md has the bytes; the program explain says the same in words.")?;
+    println!(rt;
         "Exit status: 0 where a slip was written, 1 where a notice was, or where something failed."
     )?;
     Ok(())
 }
 
-fn choose(rt: &LibcRuntime) -> Result<(), AnyError> {
+fn choose(rt: &HostRuntime) -> anyhow::Result<()> {
     match asked(rt)? {
         Request::Run => run(rt),
         Request::Help => help(rt),
-        Request::Unknown => Err("takes no argument but --help".into()),
+        Request::Unknown => Err(anyhow!("takes no argument but --help")),
     }
 }
 
-fn main(rt: LibcRuntime) -> Result<(), AnyError> {
+fn main(rt: HostRuntime) -> anyhow::Result<()> {
     let done = choose(&rt);
     if let Err(e) = &done {
-        eprintln!(rt, "zielwart: {e}")?;
+        eprintln!(rt; "zielwart: {e}")?;
     }
     done
 }

@@ -1,28 +1,23 @@
 // Making, opening, admitting and sealing.
-ghost use mathlib.Core.Path.{_≡_};
-ghost use Rattle·std.specs.Vec.{made};
-ghost use Rattle·std.specs.Of.Vec.{vec-items};
-ghost use Rattle·memory.specs.Admission.{judgement};
-ghost use Rattle·memory.specs.Runs.{setting, run-of};
-ghost use Rattle·case·specs.State.{opened as begun};
-ghost use Rattle·case·specs.Calls.{opening, admitting, admit-by, numbered-by, sealing, sealed-verdict, sealed, Answer-claims};
-ghost use Rattle·case·specs.Views.{view};
+ghost use Rattle.std.specs.Prelude.{◌≡◌, IfOk};
+ghost use Rattle.memory.specs.Admission.{judgement};
+ghost use Rattle.memory.specs.Runs.{setting, run_of};
+ghost use Rattle.case.specs.State.{opened as begun};
+ghost use Rattle.case.specs.Calls.{opening, admitting, admit_by, numbered_by, sealing, sealed_verdict, sealed, AnswerClaims};
+ghost use Rattle.case.specs.Views.{view};
+
 use crate::cases::Case;
-use crate::stages::Call;
-use crate::stages::Stage;
+use crate::stages::{Call, Stage};
 use inference::lines::Lines;
 use memory::admission::judge;
 use memory::clocks::Clock;
-use memory::limits::MOST_PROCESSORS;
-use memory::limits::MOST_RECORDS;
+use memory::limits::{MOST_PROCESSORS, MOST_RECORDS};
 use memory::models::Model;
 use memory::reading::smallest_orphan;
 use memory::records::Entry;
-use memory::refusals::Fault;
-use memory::refusals::Refusal;
+use memory::refusals::{Fault, Refusal};
 use memory::verdicts::Verdict;
-use std::alloc::AllocError;
-use std::alloc::Global;
+use std::alloc::{AllocError, Global};
 
 impl<M: Model, C: Clock> Case<M, C> {
     // An open case of one processor; only this call can fail for want of memory.
@@ -30,7 +25,7 @@ impl<M: Model, C: Clock> Case<M, C> {
     where
         M: Drop,
         C: Drop,
-        ensures { λ r. ⌜ made r (λ c. (view c ≡ begun 1) × (c .model ≡ model) × (c .clock ≡ clock)) ⌝ }
+        ensures { IfOk result (λ c. (view c ≡ begun 1) × (c.model ≡ model) × (c.clock ≡ clock)) }
     {
         let records = Vec::with_capacity(heap, MOST_RECORDS)?;
         let lines = Lines::new(heap)?;
@@ -47,10 +42,10 @@ impl<M: Model, C: Clock> Case<M, C> {
 
     // The case begins anew, whatever its stage.
     pub fn open(&mut self, processors: u8) -> Result<(), Fault>
-        ensures answer { λ r. ⌜ r ≡ opening (view (now (self .entry))) processors .answer ⌝ }
-        ensures state { λ _. ⌜ view (now (self .exit)) ≡ opening (view (now (self .entry))) processors .state ⌝ }
-        ensures model { λ _. ⌜ now (self .exit) .model ≡ now (self .entry) .model ⌝ }
-        ensures clock { λ _. ⌜ now (self .exit) .clock ≡ now (self .entry) .clock ⌝ }
+        ensures answer { result ≡ (opening (view self.old) processors).answer }
+        ensures state { view self.new ≡ (opening (view self.old) processors).state }
+        ensures model { self.new.model ≡ self.old.model }
+        ensures clock { self.new.clock ≡ self.old.clock }
     {
         if processors < 1 || processors > MOST_PROCESSORS {
             return Err(self.fault(Refusal::Stranger));
@@ -65,10 +60,10 @@ impl<M: Model, C: Clock> Case<M, C> {
 
     // One record more, if it is lawful.
     fn admit_lawful(&mut self, e: Entry) -> Result<u8, Refusal>
-        ensures answer { λ r. ⌜ r ≡ numbered-by (judgement (now (self .entry) .processors) (vec-items (now (self .entry) .records)) e) (view (now (self .entry))) ⌝ }
-        ensures state { λ _. ⌜ view (now (self .exit)) ≡ admit-by (judgement (now (self .entry) .processors) (vec-items (now (self .entry) .records)) e) (view (now (self .entry))) .state ⌝ }
-        ensures model { λ _. ⌜ now (self .exit) .model ≡ now (self .entry) .model ⌝ }
-        ensures clock { λ _. ⌜ now (self .exit) .clock ≡ now (self .entry) .clock ⌝ }
+        ensures answer { result ≡ numbered_by (judgement self.old.processors self.old.records.items e) (view self.old) }
+        ensures state { view self.new ≡ (admit_by (judgement self.old.processors self.old.records.items e) (view self.old)).state }
+        ensures model { self.new.model ≡ self.old.model }
+        ensures clock { self.new.clock ≡ self.old.clock }
     {
         let record = judge(self.processors, self.records.as_slice(), e)?;
         self.records.push_reserved(record);
@@ -77,10 +72,10 @@ impl<M: Model, C: Clock> Case<M, C> {
 
     // Answers the number of the record.
     pub fn admit(&mut self, e: Entry) -> Result<u8, Fault>
-        ensures answer { λ r. ⌜ r ≡ admitting (view (now (self .entry))) e .answer ⌝ }
-        ensures state { λ _. ⌜ view (now (self .exit)) ≡ admitting (view (now (self .entry))) e .state ⌝ }
-        ensures model { λ _. ⌜ now (self .exit) .model ≡ now (self .entry) .model ⌝ }
-        ensures clock { λ _. ⌜ now (self .exit) .clock ≡ now (self .entry) .clock ⌝ }
+        ensures answer { result ≡ (admitting (view self.old) e).answer }
+        ensures state { view self.new ≡ (admitting (view self.old) e).state }
+        ensures model { self.new.model ≡ self.old.model }
+        ensures clock { self.new.clock ≡ self.old.clock }
     {
         if let Some(refusal) = self.stage.refuses(Call::Admit) {
             return Err(self.fault(refusal));
@@ -93,7 +88,7 @@ impl<M: Model, C: Clock> Case<M, C> {
 
     // The verdict of the records as they are.
     fn verdict_sealed(&self) -> Option<Verdict>
-        ensures { λ r. ⌜ r ≡ sealed-verdict (vec-items (now (self .entry) .records)) ⌝ }
+        ensures { result ≡ sealed_verdict self.now.records.items }
     {
         if self.records.is_empty() {
             return Some(Verdict::Order);
@@ -105,10 +100,10 @@ impl<M: Model, C: Clock> Case<M, C> {
     }
 
     fn close(&mut self) -> Option<Verdict>
-        ensures answer { λ r. ⌜ r ≡ sealed-verdict (vec-items (now (self .entry) .records)) ⌝ }
-        ensures state { λ _. ⌜ view (now (self .exit)) ≡ sealed (view (now (self .entry))) ⌝ }
-        ensures model { λ _. ⌜ now (self .exit) .model ≡ now (self .entry) .model ⌝ }
-        ensures clock { λ _. ⌜ now (self .exit) .clock ≡ now (self .entry) .clock ⌝ }
+        ensures answer { result ≡ sealed_verdict self.old.records.items }
+        ensures state { view self.new ≡ sealed (view self.old) }
+        ensures model { self.new.model ≡ self.old.model }
+        ensures clock { self.new.clock ≡ self.old.clock }
     {
         let verdict = self.verdict_sealed();
         self.stage = match verdict {
@@ -120,11 +115,11 @@ impl<M: Model, C: Clock> Case<M, C> {
 
     // Ends admission. An empty case has the empty order; an orphan leaves no legal order.
     pub fn seal(&mut self) -> Result<Option<Verdict>, Fault>
-        ensures answer { λ r. ⌜ r ≡ sealing (view (now (self .entry))) .answer ⌝ }
-        ensures state { λ _. ⌜ view (now (self .exit)) ≡ sealing (view (now (self .entry))) .state ⌝ }
-        ensures claims { λ r. ⌜ Answer-claims (run-of (setting (M·Model .orders (now (self .entry) .model)) (C·Clock .earlier (now (self .entry) .clock)) (M·Model .mark) (C·Clock .mark)) (view (now (self .entry)) .records)) r ⌝ }
-        ensures model { λ _. ⌜ now (self .exit) .model ≡ now (self .entry) .model ⌝ }
-        ensures clock { λ _. ⌜ now (self .exit) .clock ≡ now (self .entry) .clock ⌝ }
+        ensures answer { result ≡ (sealing (view self.old)).answer }
+        ensures state { view self.new ≡ (sealing (view self.old)).state }
+        ensures claims { AnswerClaims (run_of (setting (M.Model.orders self.old.model) (C.Clock.earlier self.old.clock) M.Model.mark C.Clock.mark) (view self.old).records) result }
+        ensures model { self.new.model ≡ self.old.model }
+        ensures clock { self.new.clock ≡ self.old.clock }
     {
         if let Some(refusal) = self.stage.refuses(Call::Seal) {
             return Err(self.fault(refusal));

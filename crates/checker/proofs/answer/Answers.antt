@@ -1,24 +1,17 @@
-use mathlib.Core.Path.{_≡_, sym, ap, subst, _∙_}
-use mathlib.Core.Bool.{Bool, true, false}
-use mathlib.Core.List.{List}
-use Prim.Native.Nat.{ℕ}
-use lib.Dec.{eqb}
-use lib.ListN.{getD, take}
-use Rattle·std.specs.Of.Vec.{vec-items}
-use Rattle·std.specs.Vec.{made}
-use Rattle·std.proofs.shelf.Tests.{eq-eqb, ne-eqb}
-use Rattle·checker·specs.Output.{output, served, answer-to}
-use Rattle·checker·proofs.answer.Needs as need
+use Rattle.std.proofs.Common.{◌≡◌, ℕ, Bool, true, false, eqb, List, get_or, take, IfOk, vec_items, sym, ap, ◌∙◌, subst}
+use Rattle.std.proofs.lemmas.Bool.{eq-eqb, ne_eqb}
+use Rattle.checker.specs.Output.{output, served, answer_to}
+use Rattle.checker.proofs.answer.Goals as goal
 
 -- the model by which the bytes that count are read
-under : (input bs : List ℕ) (m : ℕ) (b : Bool) → bs ≡ take 4096 input → m ≡ getD bs 4 0 → eqb m 3 ≡ b → output (served b) bs ≡ answer-to input
+under : (input bs : List ℕ) (m : ℕ) (b : Bool) → bs ≡ take 4096 input → m ≡ get_or bs 4 0 → eqb m 3 ≡ b → output (served b) bs ≡ answer_to input
 under input bs m b is mark test =
-    ap (λ t. output (served t) bs) (sym test ∙ ap (λ k. eqb k 3) mark) ∙ ap (λ l. output (served (eqb (getD l 4 0) 3)) l) is
+    ap (λ t. output (served t) bs) (sym test ∙ ap (λ k. eqb k 3) mark) ∙ ap (λ l. output (served (eqb (get_or l 4 0) 3)) l) is
 
-pub returns-then-model-mark-eq-MARK : need.returns-then-model-mark-eq-MARK
+pub returns-then-model-mark-eq-MARK : goal.returns-then-model-mark-eq-MARK
 returns-then-model-mark-eq-MARK c =
-    subst (λ o. made (c .check .result) (λ v. vec-items v ≡ o)) (under (c .args .input .now) _ _ true (c .counted-bytes .ensures) (c .model-mark .ensures) (eq-eqb _ 3 (c .if-model-mark-eq-MARK .taken))) (c .check .ensures .bytes)
+    subst (λ o. IfOk c.check.result (λ v. vec_items v ≡ o)) (under c.args.input.now _ _ true c.counted-bytes.ensures c.model_mark.ensures (eq-eqb _ 3 c.if-model-mark-eq-MARK.true)) c.check.ensures.bytes
 
-pub returns-else-model-mark-eq-MARK : need.returns-else-model-mark-eq-MARK
+pub returns-else-model-mark-eq-MARK : goal.returns-else-model-mark-eq-MARK
 returns-else-model-mark-eq-MARK c =
-    subst (λ o. made (c .check-else-model-mark-eq-MARK .result) (λ v. vec-items v ≡ o)) (under (c .args .input .now) _ _ false (c .counted-bytes .ensures) (c .model-mark .ensures) (ne-eqb _ 3 (c .if-model-mark-eq-MARK .left))) (c .check-else-model-mark-eq-MARK .ensures .bytes)
+    subst (λ o. IfOk c.check-else-model-mark-eq-MARK.result (λ v. vec_items v ≡ o)) (under c.args.input.now _ _ false c.counted-bytes.ensures c.model_mark.ensures (ne_eqb _ 3 c.if-model-mark-eq-MARK.false)) c.check-else-model-mark-eq-MARK.ensures.bytes

@@ -1,7 +1,6 @@
-use mathlib.Core.Path.{sym}
-use native.Mathlib.Omega.{arith}
-use Rattle·std.proofs.shelf.Lists.{take-all}
-use Rattle·checker·proofs.counted.Needs as need
+use Rattle.std.proofs.Common.{sym, arith}
+use Rattle.std.proofs.lemmas.List.{take_all}
+use Rattle.checker.proofs.counted.Goals as goal
 
-pub returns-then-input-le-INPUT-LIMIT : need.returns-then-input-le-INPUT-LIMIT
-returns-then-input-le-INPUT-LIMIT c = sym (take-all 4096 _ (omega arith))
+pub returns-then-input-le-INPUT-LIMIT : goal.returns-then-input-le-INPUT-LIMIT
+returns-then-input-le-INPUT-LIMIT c = sym (take_all 4096 _ (omega arith))

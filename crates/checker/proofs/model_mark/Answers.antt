@@ -1,7 +1,6 @@
-use mathlib.Core.Path.{sym}
-use native.Mathlib.Omega.{arith}
-use Rattle·std.proofs.shelf.Lists.{getD-past}
-use Rattle·checker·proofs.model_mark.Needs as need
+use Rattle.std.proofs.Common.{sym, arith}
+use Rattle.std.proofs.lemmas.List.{get_or_past}
+use Rattle.checker.proofs.model_mark.Goals as goal
 
-pub returns-else-bytes-gt4 : need.returns-else-bytes-gt4
-returns-else-bytes-gt4 c = sym (getD-past (c .args .bytes .now) 4 0 (omega arith))
+pub returns-else-bytes-gt4 : goal.returns-else-bytes-gt4
+returns-else-bytes-gt4 c = sym (get_or_past c.args.bytes.now 4 0 (omega arith))

@@ -1,27 +1,21 @@
 // Listing lines.
-ghost use mathlib.Core.List.{[]};
-ghost use mathlib.Core.Path.{_≡_};
-ghost use Prim.Native.Nat.{_≤_};
-ghost use lib.ListN.{length};
-ghost use Rattle·std.specs.Vec.{made};
-ghost use Rattle·memory.specs.Limits.{most-records};
-ghost use Rattle·memory.specs.Runs.{setting, run-of};
-ghost use Rattle·inference·specs.Listing.{list-lines, Lists, Out};
-ghost use Rattle·inference·specs.Next.{next as next-of};
-ghost use Rattle·inference·specs.Views.{lines-of, Took, listing as listing-of, Infers};
-use crate::lines::Lines;
-use crate::lines::Listed;
+ghost use Rattle.std.specs.Prelude.{◌≡◌, ◌≤◌, [], length, IfOk};
+ghost use Rattle.memory.specs.Limits.{most_records};
+ghost use Rattle.memory.specs.Runs.{setting, run_of};
+ghost use Rattle.inference.specs.Listing.{list_lines, Lists, Out};
+ghost use Rattle.inference.specs.Next.{next as next_of};
+ghost use Rattle.inference.specs.Views.{lines_of, Took, listing as listing_of, Infers};
+
+use crate::lines::{Lines, Listed};
 use crate::listing::is_listed;
 use crate::premises::Premises;
 use memory::clocks::Clock;
-use memory::limits::MOST_LINES;
-use memory::limits::MOST_RECORDS;
+use memory::limits::{MOST_LINES, MOST_RECORDS};
 use memory::lines::Line;
 use memory::models::Model;
 use memory::records::Record;
 use memory::refusals::Refusal;
-use std::alloc::AllocError;
-use std::alloc::Global;
+use std::alloc::{AllocError, Global};
 
 fn next_after<'a, M: Model, C: Clock>(
     model: &'a M,
@@ -29,8 +23,8 @@ fn next_after<'a, M: Model, C: Clock>(
     records: &'a [Record],
     lines: &'a [Line],
 ) -> Option<Line>
-    requires { ⌜ length (now records) ≤ most-records ⌝ }
-    ensures { λ r. ⌜ r ≡ next-of (run-of (setting (M·Model .orders (now (model .entry))) (C·Clock .earlier (now (clock .entry))) (M·Model .mark) (C·Clock .mark)) (now (records .entry))) (now (lines .entry)) ⌝ }
+    requires { length records.now ≤ most_records }
+    ensures { result ≡ next_of (run_of (setting (M.Model.orders model.now) (C.Clock.earlier clock.now) M.Model.mark C.Clock.mark) records.now) lines.now }
 {
     let Ok(premises) = Premises::new(model, clock, records, lines) else {
         unreachable()
@@ -40,20 +34,20 @@ fn next_after<'a, M: Model, C: Clock>(
 
 impl Lines {
     pub fn new(heap: Global) -> Result<Lines, AllocError>
-        ensures { λ r. ⌜ made r (λ l. lines-of l ≡ []) ⌝ }
+        ensures { IfOk result (λ l. lines_of l ≡ []) }
     {
         let items = Vec::with_capacity(heap, MOST_LINES)?;
         Ok(Lines { items })
     }
 
     pub fn clear(&mut self)
-        ensures { λ _. ⌜ lines-of (now (self .exit)) ≡ [] ⌝ }
+        ensures { lines_of self.new ≡ [] }
     {
         self.items.clear();
     }
 
     pub fn as_slice(&self) -> &[Line]
-        ensures { λ r. ⌜ now r ≡ lines-of (now (self .entry)) ⌝ }
+        ensures { result.now ≡ lines_of self.now }
     {
         self.items.as_slice()
     }
@@ -65,8 +59,8 @@ impl Lines {
         clock: &C,
         records: &[Record],
     ) -> Option<bool>
-        requires { ⌜ length (now records) ≤ most-records ⌝ }
-        ensures { λ r. ⌜ Took (next-of (run-of (setting (M·Model .orders (now (model .entry))) (C·Clock .earlier (now (clock .entry))) (M·Model .mark) (C·Clock .mark)) (now (records .entry))) (lines-of (now (self .entry)))) (lines-of (now (self .entry))) (lines-of (now (self .exit))) r ⌝ }
+        requires { length records.now ≤ most_records }
+        ensures { Took (next_of (run_of (setting (M.Model.orders model.now) (C.Clock.earlier clock.now) M.Model.mark C.Clock.mark) records.now) (lines_of self.old)) (lines_of self.old) (lines_of self.new) result }
     {
         let line = next_after(model, clock, records, self.as_slice())?;
         let opposed = is_listed(self.as_slice(), line.second, line.first);
@@ -81,8 +75,8 @@ impl Lines {
         records: &[Record],
         k: u64,
     ) -> Listed
-        requires { ⌜ length (now records) ≤ most-records ⌝ }
-        ensures { λ r. ⌜ listing-of r (lines-of (now (self .exit))) ≡ list-lines (run-of (setting (M·Model .orders (now (model .entry))) (C·Clock .earlier (now (clock .entry))) (M·Model .mark) (C·Clock .mark)) (now (records .entry))) k (lines-of (now (self .entry))) ⌝ }
+        requires { length records.now ≤ most_records }
+        ensures { listing_of result (lines_of self.new) ≡ list_lines (run_of (setting (M.Model.orders model.now) (C.Clock.earlier clock.now) M.Model.mark C.Clock.mark) records.now) k (lines_of self.old) }
     {
         let mut count = 0;
         while count < k {
@@ -111,9 +105,9 @@ impl Lines {
         records: &[Record],
         k: u64,
     ) -> Result<Listed, Refusal>
-        ensures value { λ r. ⌜ Infers (run-of (setting (M·Model .orders (now (model .entry))) (C·Clock .earlier (now (clock .entry))) (M·Model .mark) (C·Clock .mark)) (now (records .entry))) k (lines-of (now (self .entry))) (lines-of (now (self .exit))) r ⌝ }
-        ensures lists { λ r. ⌜ made r (λ l. Lists (run-of (setting (M·Model .orders (now (model .entry))) (C·Clock .earlier (now (clock .entry))) (M·Model .mark) (C·Clock .mark)) (now (records .entry))) k (lines-of (now (self .entry))) (listing-of l (lines-of (now (self .exit))))) ⌝ }
-        ensures out { λ r. ⌜ made r (λ l. Out (run-of (setting (M·Model .orders (now (model .entry))) (C·Clock .earlier (now (clock .entry))) (M·Model .mark) (C·Clock .mark)) (now (records .entry))) k (listing-of l (lines-of (now (self .exit))))) ⌝ }
+        ensures value { Infers (run_of (setting (M.Model.orders model.now) (C.Clock.earlier clock.now) M.Model.mark C.Clock.mark) records.now) k (lines_of self.old) (lines_of self.new) result }
+        ensures lists { IfOk result (λ l. Lists (run_of (setting (M.Model.orders model.now) (C.Clock.earlier clock.now) M.Model.mark C.Clock.mark) records.now) k (lines_of self.old) (listing_of l (lines_of self.new))) }
+        ensures out { IfOk result (λ l. Out (run_of (setting (M.Model.orders model.now) (C.Clock.earlier clock.now) M.Model.mark C.Clock.mark) records.now) k (listing_of l (lines_of self.new))) }
     {
         if records.len() > MOST_RECORDS {
             return Err(Refusal::Full);

@@ -1,11 +1,9 @@
 // Taking records and lines as premises.
-ghost use mathlib.Core.Path.{_≡_};
-ghost use Prim.Native.Nat.{_≤_, _<_};
-ghost use lib.ListN.{length};
-ghost use Rattle·std.specs.Results.{Cases};
-ghost use Rattle·memory.specs.Limits.{most-records};
-ghost use Rattle·memory.specs.declared.refusals.Refusal.the-variants.{Full};
-ghost use Rattle·inference·specs.Views.{records-in, lines-in};
+ghost use Rattle.std.specs.Prelude.{◌≡◌, ◌<◌, ◌≤◌, length, MatchResult};
+ghost use Rattle.memory.specs.Limits.{most_records};
+ghost use Rattle.memory.specs.declared.refusals.Refusal.TheVariants.{Full};
+ghost use Rattle.inference.specs.Views.{records_in, lines_in};
+
 use crate::premises::Premises;
 use memory::clocks::Clock;
 use memory::limits::MOST_RECORDS;
@@ -22,9 +20,9 @@ impl<'a, M: Model, C: Clock> Premises<'a, M, C> {
         records: &'a [Record],
         lines: &'a [Line],
     ) -> Result<Premises<'a, M, C>, Refusal>
-        ensures { λ r. ⌜ Cases r
-            (λ p. (p .model ≡ model .entry) × (p .clock ≡ clock .entry) × (p .records ≡ records .entry) × (p .lines ≡ lines .entry))
-            (λ e. (e ≡ Full) × (most-records < length (now (records .entry)))) ⌝ }
+        ensures { MatchResult result
+            (λ p. (p.model ≡ model.entry) × (p.clock ≡ clock.entry) × (p.records ≡ records.entry) × (p.lines ≡ lines.entry))
+            (λ e. (e ≡ Full) × (most_records < length records.now)) }
     {
         if records.len() > MOST_RECORDS {
             return Err(Refusal::Full);

@@ -1,23 +1,20 @@
 // The next line.
-ghost use mathlib.Core.Path.{_≡_};
-ghost use lib.ListN.{length};
-ghost use Rattle·memory.specs.Numbers.{rule-at};
-ghost use Rattle·std.specs.declared.option.Option.the-variants.{Some};
-ghost use Rattle·inference·specs.Next.{fits, if-fits, tried, seek, least-of-pair, least-of-first, least-of-rule, next as next-of, Next};
-ghost use Rattle·inference·specs.Views.{records-in, lines-in, run-in};
+ghost use Rattle.std.specs.Prelude.{◌≡◌, length, Some};
+ghost use Rattle.memory.specs.Numbers.{rule_at};
+ghost use Rattle.inference.specs.Next.{fits, if_fits, tried, seek, least_of_pair, least_of_first, least_of_rule, next as next_of, Next};
+ghost use Rattle.inference.specs.Views.{records_in, lines_in, run_in};
+
 use crate::listing::is_listed;
 use crate::premises::Premises;
 use crate::premises::rules::has_third;
 use memory::clocks::Clock;
-use memory::lines::LAST_RULE;
-use memory::lines::Line;
-use memory::lines::Rule;
+use memory::lines::{LAST_RULE, Line, Rule};
 use memory::models::Model;
 
 impl<M: Model, C: Clock> Premises<'_, M, C> {
     // The line, if it follows and its pair is new.
     fn if_fits(&self, line: Line) -> Option<Line>
-        ensures { λ r. ⌜ r ≡ if-fits (fits (run-in (M·Model .orders) (C·Clock .earlier) (M·Model .mark) (C·Clock .mark) (now (self .entry))) (lines-in (now (self .entry))) line) line ⌝ }
+        ensures { result ≡ if_fits (fits (run_in M.Model.orders C.Clock.earlier M.Model.mark C.Clock.mark self.now) (lines_in self.now) line) line }
     {
         if self.passes(line) && !is_listed(self.lines, line.first, line.second) {
             Some(line)
@@ -27,7 +24,7 @@ impl<M: Model, C: Clock> Premises<'_, M, C> {
     }
 
     fn least_third(&self, rule: Rule, first: u8, second: u8) -> Option<Line>
-        ensures { λ r. ⌜ r ≡ seek (tried (run-in (M·Model .orders) (C·Clock .earlier) (M·Model .mark) (C·Clock .mark) (now (self .entry))) (lines-in (now (self .entry))) rule first second) (length (records-in (now (self .entry)))) ⌝ }
+        ensures { result ≡ seek (tried (run_in M.Model.orders C.Clock.earlier M.Model.mark C.Clock.mark self.now) (lines_in self.now) rule first second) (length (records_in self.now)) }
     {
         let thirds = self.count();
         for i in 0..thirds {
@@ -46,7 +43,7 @@ impl<M: Model, C: Clock> Premises<'_, M, C> {
 
     // No third is looked for where the pair is listed.
     fn least_of_pair(&self, rule: Rule, first: u8, second: u8) -> Option<Line>
-        ensures { λ r. ⌜ r ≡ least-of-pair (run-in (M·Model .orders) (C·Clock .earlier) (M·Model .mark) (C·Clock .mark) (now (self .entry))) (lines-in (now (self .entry))) rule first second ⌝ }
+        ensures { result ≡ least_of_pair (run_in M.Model.orders C.Clock.earlier M.Model.mark C.Clock.mark self.now) (lines_in self.now) rule first second }
     {
         if !has_third(rule) {
             return self.if_fits(Line {
@@ -63,7 +60,7 @@ impl<M: Model, C: Clock> Premises<'_, M, C> {
     }
 
     fn least_of_first(&self, rule: Rule, first: u8) -> Option<Line>
-        ensures { λ r. ⌜ r ≡ least-of-first (run-in (M·Model .orders) (C·Clock .earlier) (M·Model .mark) (C·Clock .mark) (now (self .entry))) (lines-in (now (self .entry))) rule first ⌝ }
+        ensures { result ≡ least_of_first (run_in M.Model.orders C.Clock.earlier M.Model.mark C.Clock.mark self.now) (lines_in self.now) rule first }
     {
         for i in 0..self.count() {
             if let Some(line) = self.least_of_pair(rule, first, i + 1) {
@@ -74,7 +71,7 @@ impl<M: Model, C: Clock> Premises<'_, M, C> {
     }
 
     fn least_of_rule(&self, rule: Rule) -> Option<Line>
-        ensures { λ r. ⌜ r ≡ least-of-rule (run-in (M·Model .orders) (C·Clock .earlier) (M·Model .mark) (C·Clock .mark) (now (self .entry))) (lines-in (now (self .entry))) (Some rule) ⌝ }
+        ensures { result ≡ least_of_rule (run_in M.Model.orders C.Clock.earlier M.Model.mark C.Clock.mark self.now) (lines_in self.now) (Some rule) }
     {
         for i in 0..self.count() {
             if let Some(line) = self.least_of_first(rule, i + 1) {
@@ -85,13 +82,13 @@ impl<M: Model, C: Clock> Premises<'_, M, C> {
     }
 
     fn least_of_number(&self, number: u8) -> Option<Line>
-        ensures { λ r. ⌜ r ≡ least-of-rule (run-in (M·Model .orders) (C·Clock .earlier) (M·Model .mark) (C·Clock .mark) (now (self .entry))) (lines-in (now (self .entry))) (rule-at number) ⌝ }
+        ensures { result ≡ least_of_rule (run_in M.Model.orders C.Clock.earlier M.Model.mark C.Clock.mark self.now) (lines_in self.now) (rule_at number) }
     {
         self.least_of_rule(Rule::from_number(number)?)
     }
 
     fn least(&self) -> Option<Line>
-        ensures { λ r. ⌜ r ≡ next-of (run-in (M·Model .orders) (C·Clock .earlier) (M·Model .mark) (C·Clock .mark) (now (self .entry))) (lines-in (now (self .entry))) ⌝ }
+        ensures { result ≡ next_of (run_in M.Model.orders C.Clock.earlier M.Model.mark C.Clock.mark self.now) (lines_in self.now) }
     {
         for i in 0..LAST_RULE {
             if let Some(line) = self.least_of_number(i + 1) {
@@ -103,8 +100,8 @@ impl<M: Model, C: Clock> Premises<'_, M, C> {
 
     // The least line that follows and whose pair is new.
     pub fn next_line(&self) -> Option<Line>
-        ensures value { λ r. ⌜ r ≡ next-of (run-in (M·Model .orders) (C·Clock .earlier) (M·Model .mark) (C·Clock .mark) (now (self .entry))) (lines-in (now (self .entry))) ⌝ }
-        ensures least { λ r. ⌜ Next (run-in (M·Model .orders) (C·Clock .earlier) (M·Model .mark) (C·Clock .mark) (now (self .entry))) (lines-in (now (self .entry))) r ⌝ }
+        ensures value { result ≡ next_of (run_in M.Model.orders C.Clock.earlier M.Model.mark C.Clock.mark self.now) (lines_in self.now) }
+        ensures least { Next (run_in M.Model.orders C.Clock.earlier M.Model.mark C.Clock.mark self.now) (lines_in self.now) result }
     {
         self.least()
     }

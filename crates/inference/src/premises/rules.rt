@@ -1,29 +1,27 @@
 // The seven rules.
-ghost use mathlib.Core.Bool.{true};
-ghost use mathlib.Core.Path.{_≡_};
-ghost use lib.ListN.{length};
-ghost use Rattle·memory.specs.Runs.{at, shares};
-ghost use Rattle·memory.specs.declared.lines.Rule.the-variants.{Coherence, FromRead};
-ghost use Rattle·inference·specs.Rules.{known, reads-initial, rivals, overwritten, by-rule, names-third, third-fits, follows as follows-from};
-ghost use Rattle·inference·specs.Views.{records-in, lines-in, Numbers, setting-in, run-in};
-ghost use Rattle·inference·specs.Worth.{Stays};
+ghost use Rattle.std.specs.Prelude.{◌≡◌, true, length};
+ghost use Rattle.memory.specs.Runs.{at, shares};
+ghost use Rattle.memory.specs.declared.lines.Rule.TheVariants.{Coherence, FromRead};
+ghost use Rattle.inference.specs.Rules.{known, reads_initial, rivals, overwritten, by_rule, names_third, third_fits, follows as follows_from};
+ghost use Rattle.inference.specs.Views.{records_in, lines_in, Numbers, setting_in, run_in};
+ghost use Rattle.inference.specs.Worth.{Stays};
+
 use crate::listing::is_listed;
 use crate::premises::Premises;
 use memory::clocks::Clock;
-use memory::lines::Line;
-use memory::lines::Rule;
+use memory::lines::{Line, Rule};
 use memory::models::Model;
 use memory::reading::reads_from;
 use memory::records::Record;
 
 fn share_address(x: Record, y: Record) -> bool
-    ensures { λ r. ⌜ r ≡ shares x y ⌝ }
+    ensures { result ≡ shares x y }
 {
     !x.kind.is_fence() && !y.kind.is_fence() && x.address == y.address
 }
 
 pub(super) fn has_third(rule: Rule) -> bool
-    ensures { λ r. ⌜ r ≡ names-third rule ⌝ }
+    ensures { result ≡ names_third rule }
 {
     match rule {
         Rule::Coherence | Rule::Transitive => true,
@@ -33,29 +31,29 @@ pub(super) fn has_third(rule: Rule) -> bool
 
 impl<M: Model, C: Clock> Premises<'_, M, C> {
     pub(super) fn count(&self) -> u8
-        ensures { λ r. ⌜ r ≡ length (records-in (now (self .entry))) ⌝ }
+        ensures { result ≡ length (records_in self.now) }
     {
         self.records.len() as u8
     }
 
     fn is_record(&self, number: u8) -> bool
-        ensures { λ r. ⌜ r ≡ known (run-in (M·Model .orders) (C·Clock .earlier) (M·Model .mark) (C·Clock .mark) (now (self .entry))) number ⌝ }
+        ensures { result ≡ known (run_in M.Model.orders C.Clock.earlier M.Model.mark C.Clock.mark self.now) number }
     {
         0 < number && number <= self.count()
     }
 
     // The record with a number, from 1.
     fn record(&self, number: u8) -> Record
-        requires { ⌜ Numbers (now self) number ⌝ }
-        ensures { λ r. ⌜ r ≡ at (records-in (now (self .entry))) number ⌝ }
+        requires { Numbers self.now number }
+        ensures { result ≡ at (records_in self.now) number }
     {
         self.records[number as usize - 1]
     }
 
     fn by_clock(&self, first: u8, second: u8) -> bool
-        requires first { ⌜ Numbers (now self) first ⌝ }
-        requires second { ⌜ Numbers (now self) second ⌝ }
-        ensures { λ r. ⌜ r ≡ run-in (M·Model .orders) (C·Clock .earlier) (M·Model .mark) (C·Clock .mark) (now (self .entry)) .clock first second ⌝ }
+        requires first { Numbers self.now first }
+        requires second { Numbers self.now second }
+        ensures { result ≡ (run_in M.Model.orders C.Clock.earlier M.Model.mark C.Clock.mark self.now).clock first second }
     {
         let x = self.record(first);
         let y = self.record(second);
@@ -64,9 +62,9 @@ impl<M: Model, C: Clock> Premises<'_, M, C> {
     }
 
     fn by_model(&self, first: u8, second: u8) -> bool
-        requires first { ⌜ Numbers (now self) first ⌝ }
-        requires second { ⌜ Numbers (now self) second ⌝ }
-        ensures { λ r. ⌜ r ≡ run-in (M·Model .orders) (C·Clock .earlier) (M·Model .mark) (C·Clock .mark) (now (self .entry)) .model first second ⌝ }
+        requires first { Numbers self.now first }
+        requires second { Numbers self.now second }
+        ensures { result ≡ (run_in M.Model.orders C.Clock.earlier M.Model.mark C.Clock.mark self.now).model first second }
     {
         let x = self.record(first);
         let y = self.record(second);
@@ -77,9 +75,9 @@ impl<M: Model, C: Clock> Premises<'_, M, C> {
 
     // A load of 0, and a store to its address.
     fn by_initial_read(&self, load: u8, store: u8) -> bool
-        requires load { ⌜ Numbers (now self) load ⌝ }
-        requires store { ⌜ Numbers (now self) store ⌝ }
-        ensures { λ r. ⌜ r ≡ reads-initial (run-in (M·Model .orders) (C·Clock .earlier) (M·Model .mark) (C·Clock .mark) (now (self .entry))) load store ⌝ }
+        requires load { Numbers self.now load }
+        requires store { Numbers self.now store }
+        ensures { result ≡ reads_initial (run_in M.Model.orders C.Clock.earlier M.Model.mark C.Clock.mark self.now) load store }
     {
         let x = self.record(load);
         let w = self.record(store);
@@ -88,9 +86,9 @@ impl<M: Model, C: Clock> Premises<'_, M, C> {
 
     // Two different stores to one address.
     fn are_rivals(&self, first: u8, second: u8) -> bool
-        requires first { ⌜ Numbers (now self) first ⌝ }
-        requires second { ⌜ Numbers (now self) second ⌝ }
-        ensures { λ r. ⌜ r ≡ rivals (run-in (M·Model .orders) (C·Clock .earlier) (M·Model .mark) (C·Clock .mark) (now (self .entry))) first second ⌝ }
+        requires first { Numbers self.now first }
+        requires second { Numbers self.now second }
+        ensures { result ≡ rivals (run_in M.Model.orders C.Clock.earlier M.Model.mark C.Clock.mark self.now) first second }
     {
         let v = self.record(first);
         let w = self.record(second);
@@ -99,10 +97,10 @@ impl<M: Model, C: Clock> Premises<'_, M, C> {
 
     // The load reads the second store, and the first is listed before the load.
     fn by_coherence(&self, first: u8, second: u8, load: u8) -> bool
-        requires first { ⌜ Numbers (now self) first ⌝ }
-        requires second { ⌜ Numbers (now self) second ⌝ }
-        requires load { ⌜ Numbers (now self) load ⌝ }
-        ensures { λ r. ⌜ r ≡ by-rule (run-in (M·Model .orders) (C·Clock .earlier) (M·Model .mark) (C·Clock .mark) (now (self .entry))) (lines-in (now (self .entry))) Coherence first second load ⌝ }
+        requires first { Numbers self.now first }
+        requires second { Numbers self.now second }
+        requires load { Numbers self.now load }
+        ensures { result ≡ by_rule (run_in M.Model.orders C.Clock.earlier M.Model.mark C.Clock.mark self.now) (lines_in self.now) Coherence first second load }
     {
         reads_from(self.record(load), self.record(second))
             && self.are_rivals(first, second)
@@ -111,10 +109,10 @@ impl<M: Model, C: Clock> Premises<'_, M, C> {
 
     // The load reads the store, which is listed before the second.
     fn is_overwritten(&self, load: u8, second: u8, store: u8) -> bool
-        requires load { ⌜ Numbers (now self) load ⌝ }
-        requires second { ⌜ Numbers (now self) second ⌝ }
-        requires store { ⌜ Numbers (now self) store ⌝ }
-        ensures { λ r. ⌜ r ≡ overwritten (run-in (M·Model .orders) (C·Clock .earlier) (M·Model .mark) (C·Clock .mark) (now (self .entry))) (lines-in (now (self .entry))) load second store ⌝ }
+        requires load { Numbers self.now load }
+        requires second { Numbers self.now second }
+        requires store { Numbers self.now store }
+        ensures { result ≡ overwritten (run_in M.Model.orders C.Clock.earlier M.Model.mark C.Clock.mark self.now) (lines_in self.now) load second store }
     {
         reads_from(self.record(load), self.record(store))
             && self.are_rivals(store, second)
@@ -122,9 +120,9 @@ impl<M: Model, C: Clock> Premises<'_, M, C> {
     }
 
     fn by_from_read(&self, load: u8, second: u8) -> bool
-        requires load { ⌜ Numbers (now self) load ⌝ }
-        requires second { ⌜ Numbers (now self) second ⌝ }
-        ensures { λ r. ⌜ r ≡ by-rule (run-in (M·Model .orders) (C·Clock .earlier) (M·Model .mark) (C·Clock .mark) (now (self .entry))) (lines-in (now (self .entry))) FromRead load second 0 ⌝ }
+        requires load { Numbers self.now load }
+        requires second { Numbers self.now second }
+        ensures { result ≡ by_rule (run_in M.Model.orders C.Clock.earlier M.Model.mark C.Clock.mark self.now) (lines_in self.now) FromRead load second 0 }
     {
         for i in 0..self.count() {
             if self.is_overwritten(load, second, i + 1) {
@@ -135,7 +133,7 @@ impl<M: Model, C: Clock> Premises<'_, M, C> {
     }
 
     fn third_fits(&self, rule: Rule, third: u8) -> bool
-        ensures { λ r. ⌜ r ≡ third-fits (run-in (M·Model .orders) (C·Clock .earlier) (M·Model .mark) (C·Clock .mark) (now (self .entry))) (names-third rule) third ⌝ }
+        ensures { result ≡ third_fits (run_in M.Model.orders C.Clock.earlier M.Model.mark C.Clock.mark self.now) (names_third rule) third }
     {
         if has_third(rule) {
             self.is_record(third)
@@ -146,10 +144,10 @@ impl<M: Model, C: Clock> Premises<'_, M, C> {
 
     // What the rule asks of the three records.
     fn is_given(&self, line: Line) -> bool
-        requires first { ⌜ Numbers (now self) (line .first) ⌝ }
-        requires second { ⌜ Numbers (now self) (line .second) ⌝ }
-        requires third { ⌜ third-fits (run-in (M·Model .orders) (C·Clock .earlier) (M·Model .mark) (C·Clock .mark) (now self)) (names-third (line .rule)) (line .third) ≡ true ⌝ }
-        ensures { λ r. ⌜ r ≡ by-rule (run-in (M·Model .orders) (C·Clock .earlier) (M·Model .mark) (C·Clock .mark) (now (self .entry))) (lines-in (now (self .entry))) (line .rule) (line .first) (line .second) (line .third) ⌝ }
+        requires first { Numbers self.now line.first }
+        requires second { Numbers self.now line.second }
+        requires third { third_fits (run_in M.Model.orders C.Clock.earlier M.Model.mark C.Clock.mark self.now) (names_third line.rule) line.third ≡ true }
+        ensures { result ≡ by_rule (run_in M.Model.orders C.Clock.earlier M.Model.mark C.Clock.mark self.now) (lines_in self.now) line.rule line.first line.second line.third }
     {
         match line.rule {
             Rule::Clock => self.by_clock(line.first, line.second),
@@ -165,7 +163,7 @@ impl<M: Model, C: Clock> Premises<'_, M, C> {
 
     // The line names two different records and a third as its rule does, and the rule gives it.
     pub(super) fn passes(&self, line: Line) -> bool
-        ensures { λ r. ⌜ r ≡ follows-from (run-in (M·Model .orders) (C·Clock .earlier) (M·Model .mark) (C·Clock .mark) (now (self .entry))) (lines-in (now (self .entry))) line ⌝ }
+        ensures { result ≡ follows_from (run_in M.Model.orders C.Clock.earlier M.Model.mark C.Clock.mark self.now) (lines_in self.now) line }
     {
         self.is_record(line.first)
             && self.is_record(line.second)
@@ -176,8 +174,8 @@ impl<M: Model, C: Clock> Premises<'_, M, C> {
 
     // The line follows from the records and the lines. What follows from these records follows from them and any more.
     pub fn follows(&self, line: Line) -> bool
-        ensures value { λ r. ⌜ r ≡ follows-from (run-in (M·Model .orders) (C·Clock .earlier) (M·Model .mark) (C·Clock .mark) (now (self .entry))) (lines-in (now (self .entry))) line ⌝ }
-        ensures stays { λ _. ⌜ Stays (setting-in (M·Model .orders) (C·Clock .earlier) (M·Model .mark) (C·Clock .mark) (now (self .entry))) (records-in (now (self .entry))) (lines-in (now (self .entry))) line ⌝ }
+        ensures value { result ≡ follows_from (run_in M.Model.orders C.Clock.earlier M.Model.mark C.Clock.mark self.now) (lines_in self.now) line }
+        ensures stays { Stays (setting_in M.Model.orders C.Clock.earlier M.Model.mark C.Clock.mark self.now) (records_in self.now) (lines_in self.now) line }
     {
         self.passes(line)
     }

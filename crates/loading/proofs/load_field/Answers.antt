@@ -1,17 +1,17 @@
-use mathlib.Core.Path.{sym, subst}
-use Rattle·wire.specs.Seen.{shown}
-use Rattle·loading·specs.Parts.{Turned, Gained, went-field}
-use Rattle·case.specs.Views.{view}
-use Rattle·loading·proofs.load_field.Needs as need
+use Rattle.std.proofs.Common.{sym, subst}
+use Rattle.wire.specs.Seen.{shown}
+use Rattle.loading.specs.Parts.{Turned, Gained, went_field}
+use Rattle.case.specs.Views.{view}
+use Rattle.loading.proofs.load_field.Goals as goal
 
-pub returns-in-Record : need.returns-in-Record
+pub returns-in-Record : goal.returns-in-Record
 returns-in-Record g c =
-    let s = view (c .args .case .now) in
-    let t = view (c .load-record .last .case) in
-    let told = c .load-record .ensures in
+    let s = view c.args.case.now in
+    let t = view c.load-record.new.case in
+    let told = c.load-record.ensures in
     record {
-      turned = subst (λ f. Turned s t (shown f) (went-field (c .load-record .result))) (sym (c .in-Record .is)) (told .turned);
-      gained = subst (λ f. Gained s t (shown f) (went-field (c .load-record .result))) (sym (c .in-Record .is)) (told .gained);
-      model = told .model;
-      clock = told .clock;
+      turned = subst (λ f. Turned s t (shown f) (went_field c.load-record.result)) (sym c.in-Record.is) told.turned;
+      gained = subst (λ f. Gained s t (shown f) (went_field c.load-record.result)) (sym c.in-Record.is) told.gained;
+      model = told.model;
+      clock = told.clock;
     }

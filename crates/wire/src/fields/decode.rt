@@ -1,22 +1,18 @@
 // What the content of a field says.
-ghost use mathlib.Core.Path.{_≡_};
-ghost use mathlib.Core.List.{[], _∷_};
-ghost use Prim.Native.Nat.{_≤_, _<_, _^_};
-ghost use lib.ListN.{length};
-ghost use Rattle·std.specs.Results.{Cases};
-ghost use Rattle·wire·specs.Bytes.{digits, number-on, entry-bytes, entry-in};
-ghost use Rattle·wire·specs.Fields.{entry-of, run-head-in, run-head-of};
+ghost use Rattle.std.specs.Prelude.{◌≡◌, ◌^◌, ◌<◌, ◌≤◌, [], ◌∷◌, length, IfOk};
+ghost use Rattle.wire.specs.Bytes.{digits, number_on, entry_bytes, entry_in};
+ghost use Rattle.wire.specs.Fields.{entry_of, run_head_in, run_head_of};
+
 use crate::faults::ByteFault;
-use crate::fields::Part;
-use crate::fields::RunHead;
+use crate::fields::{Part, RunHead};
 use memory::records::Entry;
 
 // The number that at most eight bytes write, the highest first; written again, it is these bytes.
 fn number(bytes: &[u8]) -> u64
-    requires { ⌜ length (now bytes) ≤ 8 ⌝ }
-    ensures value { λ r. ⌜ r ≡ number-on 0 (now (bytes .entry)) ⌝ }
-    ensures bound { λ r. ⌜ r < 256 ^ length (now (bytes .entry)) ⌝ }
-    ensures back { λ r. ⌜ digits (length (now (bytes .entry))) r ≡ now (bytes .entry) ⌝ }
+    requires { length bytes.now ≤ 8 }
+    ensures value { result ≡ number_on 0 bytes.now }
+    ensures bound { result < 256 ^ length bytes.now }
+    ensures back { digits (length bytes.now) result ≡ bytes.now }
 {
     let mut n: u64 = 0;
     for b in bytes {
@@ -27,9 +23,9 @@ fn number(bytes: &[u8]) -> u64
 
 // The entry that the 30 bytes of a record say; written again, it is these bytes.
 fn entry_in(c: &[u8]) -> Entry
-    requires { ⌜ length (now c) ≡ 30 ⌝ }
-    ensures value { λ r. ⌜ r ≡ entry-in (now (c .entry)) ⌝ }
-    ensures back { λ r. ⌜ entry-bytes r ≡ now (c .entry) ⌝ }
+    requires { length c.now ≡ 30 }
+    ensures value { result ≡ entry_in c.now }
+    ensures back { entry_bytes result ≡ c.now }
 {
     Entry {
         processor: c[0],
@@ -42,9 +38,9 @@ fn entry_in(c: &[u8]) -> Entry
 }
 
 fn run_head_in(c: &[u8]) -> RunHead
-    requires { ⌜ length (now c) ≡ 3 ⌝ }
-    ensures value { λ r. ⌜ r ≡ run-head-in (now (c .entry)) ⌝ }
-    ensures back { λ r. ⌜ r .processors ∷ r .model ∷ r .clock ∷ [] ≡ now (c .entry) ⌝ }
+    requires { length c.now ≡ 3 }
+    ensures value { result ≡ run_head_in c.now }
+    ensures back { result.processors ∷ result.model ∷ result.clock ∷ [] ≡ c.now }
 {
     RunHead {
         processors: c[0],
@@ -56,8 +52,8 @@ fn run_head_in(c: &[u8]) -> RunHead
 impl Part<'_> {
     // The entry that a record field says; written again, it is the same bytes.
     pub fn entry(self) -> Result<Entry, ByteFault>
-        ensures value { λ r. ⌜ r ≡ entry-of (self .entry .place) (now (self .entry .content)) ⌝ }
-        ensures back { λ r. ⌜ Cases r (λ e. entry-bytes e ≡ now (self .entry .content)) (λ _. Unit {0}) ⌝ }
+        ensures value { result ≡ entry_of self.entry.place self.entry.content.now }
+        ensures back { IfOk result (λ e. entry_bytes e ≡ self.entry.content.now) }
     {
         if self.content.len() != 30 {
             return Err(ByteFault { place: self.place });
@@ -67,8 +63,8 @@ impl Part<'_> {
 
     // What the head of a run says; written again, it is the same bytes.
     pub fn run_head(self) -> Result<RunHead, ByteFault>
-        ensures value { λ r. ⌜ r ≡ run-head-of (self .entry .place) (now (self .entry .content)) ⌝ }
-        ensures back { λ r. ⌜ Cases r (λ h. h .processors ∷ h .model ∷ h .clock ∷ [] ≡ now (self .entry .content)) (λ _. Unit {0}) ⌝ }
+        ensures value { result ≡ run_head_of self.entry.place self.entry.content.now }
+        ensures back { IfOk result (λ h. h.processors ∷ h.model ∷ h.clock ∷ [] ≡ self.entry.content.now) }
     {
         if self.content.len() != 3 {
             return Err(ByteFault { place: self.place });

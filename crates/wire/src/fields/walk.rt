@@ -1,25 +1,20 @@
 // Reading, field by field.
-ghost use mathlib.Core.Path.{_≡_};
-ghost use Prim.Native.Nat.{_<_};
-ghost use lib.ListN.{length};
-ghost use Rattle·std.specs.Results.{Cases};
-ghost use Rattle·wire·specs.declared.fields.Text.the-variants.{Run, Paper};
-ghost use Rattle·wire·specs.Fields.{sort-of, tag-of, named, next-field, fault-at};
-ghost use Rattle·wire·specs.Seen.{seen, shown, left, Passed};
-ghost use Rattle·wire·specs.Framed.{Framed, Unframed};
+ghost use Rattle.std.specs.Prelude.{◌≡◌, ◌<◌, length, MatchResult};
+ghost use Rattle.wire.specs.declared.fields.Text.TheVariants.{Run, Paper};
+ghost use Rattle.wire.specs.Fields.{sort_of, tag_of, named, next_field, fault_at};
+ghost use Rattle.wire.specs.Seen.{seen, shown, left, Passed};
+ghost use Rattle.wire.specs.Framed.{Framed, Unframed};
+
 use crate::faults::ByteFault;
-use crate::fields::Field;
-use crate::fields::Part;
-use crate::fields::Reader;
-use crate::fields::Text;
+use crate::fields::{Field, Part, Reader, Text};
 use crate::tags;
 
 // The field of a text that a tag and a content make.
 fn field_named<'a>(text: Text, tag: u8, part: Part<'a>) -> Result<Field<'a>, ByteFault>
-    ensures value { λ r. ⌜ seen r ≡ named (sort-of text tag) (part .entry .place) (now (part .entry .content)) ⌝ }
-    ensures whole { λ r. ⌜ Cases r
-        (λ f. (tag ≡ tag-of text (shown f .sort)) × (shown f .place ≡ part .entry .place) × (shown f .content ≡ now (part .entry .content)))
-        (λ e. e ≡ fault-at (part .entry .place)) ⌝ }
+    ensures value { seen result ≡ named (sort_of text tag) part.entry.place part.entry.content.now }
+    ensures whole { MatchResult result
+        (λ f. (tag ≡ tag_of text (shown f).sort) × ((shown f).place ≡ part.entry.place) × ((shown f).content ≡ part.entry.content.now))
+        (λ e. e ≡ fault_at part.entry.place) }
 {
     match (text, tag) {
         (Text::Run, tags::RUN_HEAD) => Ok(Field::Head(part)),
@@ -37,9 +32,9 @@ fn field_named<'a>(text: Text, tag: u8, part: Part<'a>) -> Result<Field<'a>, Byt
 impl<'a> Reader<'a> {
     // The tag and the content of the whole field that stands at the reader's place.
     fn frame(&self) -> Result<(u8, Part<'a>), ByteFault>
-        ensures { λ r. ⌜ Cases r
-            (λ x. Framed (now (now (self .entry) .bytes)) (now (self .entry) .at) (x .0) (now (x .1 .content)) × (x .1 .place ≡ now (self .entry) .at))
-            (λ e. Unframed (now (now (self .entry) .bytes)) (now (self .entry) .at) × (e ≡ fault-at (now (self .entry) .at))) ⌝ }
+        ensures { MatchResult result
+            (λ x. Framed self.now.bytes.now self.now.at x.0 x.1.content.now × (x.1.place ≡ self.now.at))
+            (λ e. Unframed self.now.bytes.now self.now.at × (e ≡ fault_at self.now.at)) }
     {
         let bytes = self.bytes;
         let place = self.at;
@@ -56,10 +51,10 @@ impl<'a> Reader<'a> {
 
     // The field that stands at the reader's place, which moves on behind it; a fault leaves the reader as it was.
     pub fn next(&mut self) -> Result<Field<'a>, ByteFault>
-        ensures answer { λ r. ⌜ seen r ≡ next-field (now (self .entry) .text) (now (self .entry) .at) (left (now (self .entry))) ⌝ }
-        ensures passed { λ r. ⌜ Cases r (λ f. Passed (now (self .entry)) (now (self .exit)) (shown f)) (λ e. (now (self .exit) .at ≡ now (self .entry) .at) × (e ≡ fault-at (now (self .entry) .at))) ⌝ }
-        ensures bytes { λ _. ⌜ now (self .exit) .bytes ≡ now (self .entry) .bytes ⌝ }
-        ensures text { λ _. ⌜ now (self .exit) .text ≡ now (self .entry) .text ⌝ }
+        ensures answer { seen result ≡ next_field self.old.text self.old.at (left self.old) }
+        ensures passed { MatchResult result (λ f. Passed self.old self.new (shown f)) (λ e. (self.new.at ≡ self.old.at) × (e ≡ fault_at self.old.at)) }
+        ensures bytes { self.new.bytes ≡ self.old.bytes }
+        ensures text { self.new.text ≡ self.old.text }
     {
         let (tag, part) = self.frame()?;
         let field = field_named(self.text, tag, part)?;
@@ -69,7 +64,7 @@ impl<'a> Reader<'a> {
 
     // No byte is left; the fault has the place of the first that is.
     pub fn finish(&self) -> Result<(), ByteFault>
-        ensures { λ r. ⌜ Cases r (λ _. now (self .entry) .at ≡ length (now (now (self .entry) .bytes))) (λ e. (now (self .entry) .at < length (now (now (self .entry) .bytes))) × (e ≡ fault-at (now (self .entry) .at))) ⌝ }
+        ensures { MatchResult result (λ _. self.now.at ≡ length self.now.bytes.now) (λ e. (self.now.at < length self.now.bytes.now) × (e ≡ fault_at self.now.at)) }
     {
         if self.at < self.bytes.len() {
             return Err(ByteFault { place: self.at });
@@ -78,9 +73,9 @@ impl<'a> Reader<'a> {
     }
 
     pub fn over_run(bytes: &'a [u8]) -> Reader<'a>
-        ensures bytes { λ r. ⌜ now (r .bytes) ≡ now (bytes .entry) ⌝ }
-        ensures start { λ r. ⌜ r .at ≡ 0 ⌝ }
-        ensures text { λ r. ⌜ r .text ≡ Run ⌝ }
+        ensures bytes { result.bytes.now ≡ bytes.now }
+        ensures start { result.at ≡ 0 }
+        ensures text { result.text ≡ Run }
     {
         Reader {
             bytes,
@@ -90,9 +85,9 @@ impl<'a> Reader<'a> {
     }
 
     pub fn over_paper(bytes: &'a [u8]) -> Reader<'a>
-        ensures bytes { λ r. ⌜ now (r .bytes) ≡ now (bytes .entry) ⌝ }
-        ensures start { λ r. ⌜ r .at ≡ 0 ⌝ }
-        ensures text { λ r. ⌜ r .text ≡ Paper ⌝ }
+        ensures bytes { result.bytes.now ≡ bytes.now }
+        ensures start { result.at ≡ 0 }
+        ensures text { result.text ≡ Paper }
     {
         Reader {
             bytes,

@@ -1,6 +1,6 @@
-use Rattle·case.specs.Views.{view}
-use Rattle·writing·proofs.Reload.{reloads}
-use Rattle·writing·proofs.write_run.Needs as need
+use Rattle.case.specs.Views.{view}
+use Rattle.writing.proofs.Reload.{reloads}
+use Rattle.writing.proofs.write_run.Goals as goal
 
-pub returns : need.returns
-returns g c = let case = c .args .case .now in record { wrote = c .put-run .ensures; reloads = λ before. reloads (g .M·Model .mark) (g .C·Clock .mark) before (view case) (case .opened) (case .lawful) (case .sized) }
+pub returns : goal.returns
+returns g c = let case = c.args.case.now in record { wrote = c.put-run.ensures; reloads = λ before. reloads g.M.Model.mark g.C.Clock.mark before (view case) case.opened case.lawful case.sized }

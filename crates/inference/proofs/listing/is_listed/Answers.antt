@@ -1,13 +1,13 @@
-use mathlib.Core.Path.{sym}
-use Rattle·memory.proofs.Loops.{any-here, any-more, any-done}
-use Rattle·inference·specs.Rules.{blank-line, has-pair}
-use Rattle·inference·proofs.listing.is_listed.Needs as need
+use Rattle.std.proofs.Common.{sym}
+use Rattle.memory.proofs.Loops.{any_here, any_more, any_done}
+use Rattle.inference.specs.Rules.{blank_line, has_pair}
+use Rattle.inference.proofs.listing.is_listed.Goals as goal
 
-pub returns-then-is-pair : need.returns-then-is-pair
-returns-then-is-pair c = sym (any-here (has-pair (c .args .first) (c .args .second)) (c .args .lines .now) (c .loop-line .line-index) blank-line (c .loop-line-test .taken) (c .loop-line .inv) (sym (c .if-is-pair .ensures tt)))
+pub returns-then-is-pair : goal.returns-then-is-pair
+returns-then-is-pair c = sym (any_here (has_pair c.args.first c.args.second) c.args.lines.now c.loop-line.line-index blank_line c.loop-line-test.true c.loop-line.invariant (sym c.if-is-pair.ensures))
 
-pub loop-line-again : need.loop-line-again
-loop-line-again c = any-more (has-pair (c .args .first) (c .args .second)) (c .args .lines .now) (c .loop-line .line-index) blank-line (c .loop-line-test .taken) (c .loop-line .inv) (sym (c .if-is-pair .ensures tt))
+pub loop-line-preserved : goal.loop-line-preserved
+loop-line-preserved c = any_more (has_pair c.args.first c.args.second) c.args.lines.now c.loop-line.line-index blank_line c.loop-line-test.true c.loop-line.invariant (sym c.if-is-pair.ensures)
 
-pub returns : need.returns
-returns c = sym (any-done (has-pair (c .args .first) (c .args .second)) (c .args .lines .now) (c .loop-line .line-index) (c .loop-line-test .left) (c .loop-line .inv))
+pub returns : goal.returns
+returns c = sym (any_done (has_pair c.args.first c.args.second) c.args.lines.now c.loop-line.line-index c.loop-line-test.false c.loop-line.invariant)

@@ -1,14 +1,14 @@
-use mathlib.Core.Path.{sym}
-use Rattle·memory·specs.Reading.{reads-from}
-use Rattle·memory·specs.Runs.{blank}
-use Rattle·memory·proofs.Loops.{any-here, any-more, any-done}
-use Rattle·memory·proofs.reading.reads_any.Needs as need
+use Rattle.std.proofs.Common.{sym}
+use Rattle.memory.specs.Reading.{reads_from}
+use Rattle.memory.specs.Runs.{blank}
+use Rattle.memory.proofs.Loops.{any_here, any_more, any_done}
+use Rattle.memory.proofs.reading.reads_any.Goals as goal
 
-pub returns-then-reads-from : need.returns-then-reads-from
-returns-then-reads-from c = sym (any-here (reads-from (c .args .load)) (c .args .records .now) (c .loop-store .store-index) blank (c .loop-store-test .taken) (c .loop-store .inv) (sym (c .if-reads-from .ensures tt)))
+pub returns-then-reads-from : goal.returns-then-reads-from
+returns-then-reads-from c = sym (any_here (reads_from c.args.load) c.args.records.now c.loop-store.store-index blank c.loop-store-test.true c.loop-store.invariant (sym c.if-reads-from.ensures))
 
-pub loop-store-again : need.loop-store-again
-loop-store-again c = any-more (reads-from (c .args .load)) (c .args .records .now) (c .loop-store .store-index) blank (c .loop-store-test .taken) (c .loop-store .inv) (sym (c .if-reads-from .ensures tt))
+pub loop-store-preserved : goal.loop-store-preserved
+loop-store-preserved c = any_more (reads_from c.args.load) c.args.records.now c.loop-store.store-index blank c.loop-store-test.true c.loop-store.invariant (sym c.if-reads-from.ensures)
 
-pub returns : need.returns
-returns c = sym (any-done (reads-from (c .args .load)) (c .args .records .now) (c .loop-store .store-index) (c .loop-store-test .left) (c .loop-store .inv))
+pub returns : goal.returns
+returns c = sym (any_done (reads_from c.args.load) c.args.records.now c.loop-store.store-index c.loop-store-test.false c.loop-store.invariant)

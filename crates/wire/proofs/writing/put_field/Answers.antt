@@ -1,21 +1,17 @@
-use mathlib.Core.Path.{_≡_, refl, ap, _∙_}
-use mathlib.Core.List.{List, [], _∷_}
-use Prim.Native.Nat.{ℕ, _+_, _/_, _%_}
-use native.Mathlib.Omega.{arith}
-use lib.ListN.{length, getD}
-use Rattle·wire·specs.Bytes.{digits}
-use Rattle·wire·specs.Written.{over}
-use Rattle·wire·proofs.Over.{over-over}
-use Rattle·wire·proofs.writing.put_field.Needs as need
+use Rattle.std.proofs.Common.{◌≡◌, ℕ, ◌+◌, ◌/◌, ◌%◌, List, [], ◌∷◌, length, get_or, refl, ap, ◌∙◌, arith}
+use Rattle.wire.specs.Bytes.{digits}
+use Rattle.wire.specs.Written.{over}
+use Rattle.wire.proofs.Over.{over_over}
+use Rattle.wire.proofs.writing.put_field.Goals as goal
 
-pub returns : need.returns
+pub returns : goal.returns
 returns c =
-    let out : List ℕ = c .args .out .now in
-    let at : ℕ = c .args .at in
-    let tag : ℕ = c .args .tag in
-    let cs : List ℕ = c .args .content .now in
-    let high : getD (c .to-be-bytes .result) 0 0 ≡ length cs / 256 % 256 = ap (λ l. getD l 0 0) (c .to-be-bytes .ensures) ∙ omega arith in
-    let low : getD (c .to-be-bytes .result) 1 0 ≡ length cs % 256 = ap (λ l. getD l 1 0) (c .to-be-bytes .ensures) ∙ omega arith in
-    let first : c .put .last .out ≡ over out at (tag ∷ digits 2 (length cs)) = c .put .ensures ∙ (λ i. over out at (tag ∷ high i ∷ low i ∷ [])) in
-    let two = over-over out (tag ∷ digits 2 (length cs)) cs at (at + 3) refl (omega arith) in
-    record { end = refl; bytes = c .put-2 .ensures ∙ ap (λ l. over l (at + 3) cs) first ∙ two }
+    let out : List ℕ = c.args.out.now in
+    let at : ℕ = c.args.at in
+    let tag : ℕ = c.args.tag in
+    let cs : List ℕ = c.args.content.now in
+    let high : get_or c.to-be-bytes.result 0 0 ≡ length cs / 256 % 256 = ap (λ l. get_or l 0 0) c.to-be-bytes.ensures ∙ omega arith in
+    let low : get_or c.to-be-bytes.result 1 0 ≡ length cs % 256 = ap (λ l. get_or l 1 0) c.to-be-bytes.ensures ∙ omega arith in
+    let first : c.put.new.out ≡ over out at (tag ∷ digits 2 (length cs)) = c.put.ensures ∙ (λ i. over out at (tag ∷ high i ∷ low i ∷ [])) in
+    let two = over_over out (tag ∷ digits 2 (length cs)) cs at (at + 3) refl (omega arith) in
+    record { end = refl; bytes = c.put-2.ensures ∙ ap (λ l. over l (at + 3) cs) first ∙ two }

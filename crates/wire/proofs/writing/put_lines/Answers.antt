@@ -1,34 +1,29 @@
-use mathlib.Core.Path.{_≡_, refl, ap, _∙_}
-use mathlib.Core.List.{List}
-use Prim.Native.Nat.{ℕ, _+_, _*_}
-use native.Mathlib.Omega.{arith}
-use lib.ListN.{length, getD, take}
-use lib.Seq.{take-all}
-use Rattle·memory.specs.declared.lines.Line.{Line}
-use Rattle·wire·specs.Bytes.{field, line-field, lines-body}
-use Rattle·wire·specs.Written.{over}
-use Rattle·wire·proofs.Over.{over-none, fields-more, lines-long}
-use Rattle·wire·proofs.writing.put_lines.Needs as need
+use Rattle.std.proofs.Common.{◌≡◌, ℕ, ◌+◌, ◌*◌, List, length, get_or, take, refl, ap, ◌∙◌, arith, take_all}
+use Rattle.memory.specs.declared.lines.Line.{Line}
+use Rattle.wire.specs.Bytes.{field, line_field, lines_body}
+use Rattle.wire.specs.Written.{over}
+use Rattle.wire.proofs.Over.{over_none, fields_more, lines_long}
+use Rattle.wire.proofs.writing.put_lines.Goals as goal
 
-pub put-field-at-requires : need.put-field-at-requires
-put-field-at-requires c κs =
-    let long : length (c .line-content .result) ≡ 4 = ap length (c .line-content .ensures) in
-    omega (arith, lines-long (c .args .lines .now))
+pub put-field-at-requires : goal.put-field-at-requires
+put-field-at-requires c =
+    let long : length c.line-content.result ≡ 4 = ap length c.line-content.ensures in
+    omega (arith, lines_long c.args.lines.now)
 
-pub loop-line-holds : need.loop-line-holds
-loop-line-holds c = (omega arith, over-none _ _)
+pub loop-line-init : goal.loop-line-init
+loop-line-init c = (omega arith, over_none _ _)
 
-pub loop-line-again : need.loop-line-again
-loop-line-again c =
-    let ls : List Line = c .args .lines .now in
-    let out : List ℕ = c .args .out .now in
-    let at : ℕ = c .loop-line .at in
-    let content = c .line-content .ensures in
-    let long : length (c .line-content .result) ≡ 4 = ap length content in
-    let written = c .put-field-at .ensures .bytes ∙ (λ i. over (c .loop-line .inv .1 i) at (field 17 (content i))) in
-    (omega arith, written ∙ fields-more line-field 7 (λ l. refl) out ls (c .args .start) (c .loop-line .line-index) at _ (c .loop-line-test .taken) (c .loop-line .inv .0) (omega (arith, lines-long ls)))
+pub loop-line-preserved : goal.loop-line-preserved
+loop-line-preserved c =
+    let ls : List Line = c.args.lines.now in
+    let out : List ℕ = c.args.out.now in
+    let at : ℕ = c.loop-line.at in
+    let content = c.line-content.ensures in
+    let long : length c.line-content.result ≡ 4 = ap length content in
+    let written = c.put-field-at.ensures.bytes ∙ (λ i. over (c.loop-line.invariant.1 i) at (field 17 (content i))) in
+    (omega arith, written ∙ fields_more line_field 7 (λ l. refl) out ls c.args.start c.loop-line.line-index at _ c.loop-line-test.true c.loop-line.invariant.0 (omega (arith, lines_long ls)))
 
-pub returns : need.returns
+pub returns : goal.returns
 returns c =
-    let all : take (c .loop-line .line-index) (c .args .lines .now) ≡ c .args .lines .now = take-all _ _ (c .loop-line-test .left) in
-    record { end = omega (arith, lines-long (c .args .lines .now)); bytes = c .loop-line .inv .1 ∙ ap (λ ls. over (c .args .out .now) (c .args .start) (lines-body ls)) all }
+    let all : take c.loop-line.line-index c.args.lines.now ≡ c.args.lines.now = take_all _ _ c.loop-line-test.false in
+    record { end = omega (arith, lines_long c.args.lines.now); bytes = c.loop-line.invariant.1 ∙ ap (λ ls. over c.args.out.now c.args.start (lines_body ls)) all }

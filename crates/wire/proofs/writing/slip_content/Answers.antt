@@ -1,16 +1,13 @@
-use mathlib.Core.Path.{_≡_, refl, sym, ap, _∙_}
-use mathlib.Core.List.{List, [], _∷_, _++_}
-use Prim.Native.Nat.{ℕ}
-use native.Mathlib.Omega.{arith}
-use Rattle·memory.specs.Numbers.{verdict-number}
-use Rattle·wire·specs.Bytes.{digits}
-use Rattle·wire·specs.Written.{over}
-use Rattle·wire·proofs.Digits.{digits-8}
-use Rattle·wire·proofs.Over.{over-next, over-all}
-use Rattle·wire·proofs.writing.slip_content.Needs as need
+use Rattle.std.proofs.Common.{◌≡◌, ℕ, List, [], ◌∷◌, ◌++◌, sym, refl, ap, ◌∙◌, arith}
+use Rattle.memory.specs.Numbers.{verdict_number}
+use Rattle.wire.specs.Bytes.{digits}
+use Rattle.wire.specs.Written.{over}
+use Rattle.wire.proofs.Digits.{digits_8}
+use Rattle.wire.proofs.Over.{over_next, over_all}
+use Rattle.wire.proofs.writing.slip_content.Goals as goal
 
-pub returns : need.returns
+pub returns : goal.returns
 returns c =
-    let one = c .put .ensures ∙ ap (λ v. over _ 0 (v ∷ [])) (c .verdict-number .ensures) in
-    let two = over-next _ _ _ (verdict-number (c .args .verdict) ∷ []) (digits 8 (c .args .steps)) 1 one refl (omega arith) (c .put-2 .ensures ∙ ap (over _ 1) (c .to-be-bytes .ensures ∙ sym (digits-8 (c .args .steps)))) in
-    two ∙ over-all _ _ refl
+    let one = c.put.ensures ∙ ap (λ v. over _ 0 (v ∷ [])) c.verdict_number.ensures in
+    let two = over_next _ _ _ (verdict_number c.args.verdict ∷ []) (digits 8 c.args.steps) 1 one refl (omega arith) (c.put-2.ensures ∙ ap (over _ 1) (c.to-be-bytes.ensures ∙ sym (digits_8 c.args.steps))) in
+    two ∙ over_all _ _ refl

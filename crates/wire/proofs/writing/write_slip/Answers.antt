@@ -1,15 +1,11 @@
-use mathlib.Core.Path.{_≡_, ap, _∙_}
-use mathlib.Core.List.{List}
-use Prim.Native.Nat.{ℕ}
-use native.Mathlib.Omega.{arith}
-use lib.ListN.{length}
-use Rattle·wire·specs.Bytes.{field}
-use Rattle·wire·specs.Written.{over}
-use Rattle·wire·proofs.Over.{written-front}
-use Rattle·wire·proofs.writing.write_slip.Needs as need
+use Rattle.std.proofs.Common.{◌≡◌, ℕ, List, length, ap, ◌∙◌, arith}
+use Rattle.wire.specs.Bytes.{field}
+use Rattle.wire.specs.Written.{over}
+use Rattle.wire.proofs.Over.{written_front}
+use Rattle.wire.proofs.writing.write_slip.Goals as goal
 
-pub returns : need.returns
+pub returns : goal.returns
 returns c =
-    let out : List ℕ = c .args .out .now in
-    let long = ap length (c .slip-content .ensures) in
-    written-front out _ _ _ (omega arith) (omega arith) (c .put-field .ensures .bytes ∙ ap (λ l. over out 0 (field 29 l)) (c .slip-content .ensures))
+    let out : List ℕ = c.args.out.now in
+    let long = ap length c.slip-content.ensures in
+    written_front out _ _ _ (omega arith) (omega arith) (c.put-field.ensures.bytes ∙ ap (λ l. over out 0 (field 29 l)) c.slip-content.ensures)

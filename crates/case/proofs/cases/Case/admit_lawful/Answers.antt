@@ -1,39 +1,32 @@
-use mathlib.Core.Path.{_≡_, sym, ap, subst, _∙_}
-use mathlib.Core.Bool.{true}
-use mathlib.Core.List.{List, []}
-use Prim.Native.Nat.{ℕ, _<_}
-use native.Mathlib.Omega.{arith}
-use borrow.Author.Needs.{needs}
-use Rattle·std.specs.Of.Vec.{vec-items, vec-len}
-use Rattle·std.specs.declared.result.Result.the-variants.{Ok}
-use Rattle·memory.specs.declared.records.Record.{Record}
-use Rattle·memory.specs.Admission.{judgement, admits, sized}
-use Rattle·memory.proofs.Admitted.{admits-more, sized-more}
-use Rattle·inference.specs.Views.{lines-of}
-use Rattle·inference.proofs.Pairs.{paired-more}
-use Rattle·case·proofs.cases.Case.admit_lawful.Needs as need
+use Rattle.std.proofs.Common.{◌≡◌, ℕ, ◌<◌, true, List, [], Ok, vec_items, vec_len, sym, ap, ◌∙◌, subst, arith, rules}
+use Rattle.memory.specs.declared.records.Record.{Record}
+use Rattle.memory.specs.Admission.{judgement, admits, sized}
+use Rattle.memory.proofs.Admitted.{admits_more, sized_more}
+use Rattle.inference.specs.Views.{lines_of}
+use Rattle.inference.proofs.Pairs.{paired_more}
+use Rattle.case.proofs.cases.Case.admit_lawful.Goals as goal
 
-pub ghost-self : need.ghost-self
-ghost-self g c =
-    let self = c .args .self .now in
-    let e = c .args .e in
-    let p : ℕ = self .processors in
-    let rs : List Record = vec-items (self .records) in
-    let r : Record = c .in-Continue-record .record in
-    let j : judgement p rs e ≡ Ok r = ap (λ xs. judgement p xs e) (sym (c .as-slice .ensures .value)) ∙ sym (c .in-Continue-record .ensures tt) in
-    let items = sym (c .push-reserved .ensures .items) in
-    let address : e .address < 4294967296 = search needs in
-    let value : e .value < 18446744073709551616 = search needs in (
-      search needs,
+pub invariant-of-self : goal.invariant-of-self
+invariant-of-self g c =
+    let self = c.args.self.now in
+    let e = c.args.e in
+    let p : ℕ = self.processors in
+    let rs : List Record = vec_items self.records in
+    let r : Record = c.in-ok-record.record in
+    let j : judgement p rs e ≡ Ok r = ap (λ xs. judgement p xs e) (sym c.as-slice.ensures.value) ∙ sym c.in-ok-record.ensures in
+    let items = sym c.push-reserved.ensures.items in
+    let address : e.address < 4294967296 = search rules in
+    let value : e.value < 18446744073709551616 = search rules in (
+      search rules,
       (
-        search needs,
+        search rules,
         (
-          self .opened,
+          self.opened,
           (
-            subst (λ xs. admits p [] xs ≡ true) items (admits-more p rs e r (self .lawful) j),
+            subst (λ xs. admits p [] xs ≡ true) items (admits_more p rs e r self.lawful j),
             (
-              subst (λ xs. sized xs ≡ true) items (sized-more p rs e r (self .sized) j address value),
-              (paired-more (vec-len (self .records)) (vec-len (c .push-reserved .last .self)) (omega (arith, c .push-reserved .ensures .len)) (lines-of (self .lines)) (self .pairs), tt),
+              subst (λ xs. sized xs ≡ true) items (sized_more p rs e r self.sized j address value),
+              (paired_more (vec_len self.records) (vec_len c.push-reserved.new.self) (omega (arith, c.push-reserved.ensures.len)) (lines_of self.lines) self.pairs, tt),
             ),
           ),
         ),

@@ -1,21 +1,18 @@
-use mathlib.Core.Path.{sym, subst}
-use mathlib.Core.List.{[]}
-use borrow.Author.Needs.{needs}
-use Rattle·std.specs.Of.Vec.{vec-items}
-use Rattle·memory.specs.Legal.{Claims}
-use Rattle·memory.specs.Runs.{setting, run-of}
-use Rattle·case·proofs.Sealed.{sealed-claims}
-use Rattle·case·proofs.cases.Case.seal.Needs as need
+use Rattle.std.proofs.Common.{[], vec_items, sym, subst, rules}
+use Rattle.memory.specs.Legal.{Claims}
+use Rattle.memory.specs.Runs.{setting, run_of}
+use Rattle.case.proofs.Sealed.{sealed_claims}
+use Rattle.case.proofs.cases.Case.seal.Goals as goal
 
-pub returns : need.returns
+pub returns : goal.returns
 returns g c =
-    let self = c .args .self .now in
-    let S = setting (g .M·Model .orders (self .model)) (g .C·Clock .earlier (self .clock)) (g .M·Model .mark) (g .C·Clock .mark) in
-    let rs = vec-items (self .records) in
+    let self = c.args.self.now in
+    let S = setting (g.M.Model.orders self.model) (g.C.Clock.earlier self.clock) g.M.Model.mark g.C.Clock.mark in
+    let rs = vec_items self.records in
     record {
-      answer = search needs;
-      state = search needs;
-      claims = subst (Claims (run-of S rs) []) (sym (c .close .ensures .answer)) (sealed-claims S rs);
-      model = search needs;
-      clock = search needs;
+      answer = search rules;
+      state = search rules;
+      claims = subst (Claims (run_of S rs) []) (sym c.close.ensures.answer) (sealed_claims S rs);
+      model = search rules;
+      clock = search rules;
     }

@@ -1,22 +1,22 @@
-use Rattle·memory.specs.Runs.{Run, setting, run-of}
-use Rattle·inference·specs.Views.{lines-of}
-use Rattle·inference·proofs.Onward.{reached-none, none-follows, opposed-listed, reached-more, all-listed}
-use Rattle·inference·proofs.lines.Lines.list_up_to.Needs as need
+use Rattle.memory.specs.Runs.{Run, setting, run_of}
+use Rattle.inference.specs.Views.{lines_of}
+use Rattle.inference.proofs.Onward.{reached_none, none_follows, opposed_listed, reached_more, all_listed}
+use Rattle.inference.proofs.lines.Lines.list_up_to.Goals as goal
 
-pub loop-count-holds : need.loop-count-holds
-loop-count-holds g c = reached-none (run-of (setting (g .M·Model .orders (c .args .model .now)) (g .C·Clock .earlier (c .args .clock .now)) (g .M·Model .mark) (g .C·Clock .mark)) (c .args .records .now)) (c .args .k) (lines-of (c .args .self .now))
+pub loop-count-init : goal.loop-count-init
+loop-count-init g c = reached_none (run_of (setting (g.M.Model.orders c.args.model.now) (g.C.Clock.earlier c.args.clock.now) g.M.Model.mark g.C.Clock.mark) c.args.records.now) c.args.k (lines_of c.args.self.now)
 
-pub returns-in-rest : need.returns-in-rest
-returns-in-rest g c =
-    none-follows (run-of (setting (g .M·Model .orders (c .args .model .now)) (g .C·Clock .earlier (c .args .clock .now)) (g .M·Model .mark) (g .C·Clock .mark)) (c .args .records .now)) (c .args .k) (lines-of (c .args .self .now)) (c .loop-count .count) (lines-of (c .loop-count .self)) (c .loop-count .inv) (c .loop-count-test .taken) (lines-of (c .list-next .last .self)) (c .in-rest .ensures tt)
+pub returns-in-default : goal.returns-in-default
+returns-in-default g c =
+    none_follows (run_of (setting (g.M.Model.orders c.args.model.now) (g.C.Clock.earlier c.args.clock.now) g.M.Model.mark g.C.Clock.mark) c.args.records.now) c.args.k (lines_of c.args.self.now) c.loop-count.count (lines_of c.loop-count.self) c.loop-count.invariant c.loop-count-test.true (lines_of c.list_next.new.self) c.in-default.ensures
 
-pub returns-then-opposed : need.returns-then-opposed
+pub returns-then-opposed : goal.returns-then-opposed
 returns-then-opposed g c =
-    opposed-listed (run-of (setting (g .M·Model .orders (c .args .model .now)) (g .C·Clock .earlier (c .args .clock .now)) (g .M·Model .mark) (g .C·Clock .mark)) (c .args .records .now)) (c .args .k) (lines-of (c .args .self .now)) (c .loop-count .count) (lines-of (c .loop-count .self)) (c .loop-count .inv) (c .loop-count-test .taken) (lines-of (c .list-next .last .self)) (c .in-Some .opposed) (c .if-opposed .taken) (c .in-Some .ensures tt)
+    opposed_listed (run_of (setting (g.M.Model.orders c.args.model.now) (g.C.Clock.earlier c.args.clock.now) g.M.Model.mark g.C.Clock.mark) c.args.records.now) c.args.k (lines_of c.args.self.now) c.loop-count.count (lines_of c.loop-count.self) c.loop-count.invariant c.loop-count-test.true (lines_of c.list_next.new.self) c.in-Some.opposed c.if-opposed.true c.in-Some.ensures
 
-pub loop-count-again : need.loop-count-again
-loop-count-again g c =
-    reached-more (run-of (setting (g .M·Model .orders (c .args .model .now)) (g .C·Clock .earlier (c .args .clock .now)) (g .M·Model .mark) (g .C·Clock .mark)) (c .args .records .now)) (c .args .k) (lines-of (c .args .self .now)) (c .loop-count .count) (lines-of (c .loop-count .self)) (c .loop-count .inv) (c .loop-count-test .taken) (lines-of (c .list-next .last .self)) (c .in-Some .opposed) (c .if-opposed .left) (c .in-Some .ensures tt)
+pub loop-count-preserved : goal.loop-count-preserved
+loop-count-preserved g c =
+    reached_more (run_of (setting (g.M.Model.orders c.args.model.now) (g.C.Clock.earlier c.args.clock.now) g.M.Model.mark g.C.Clock.mark) c.args.records.now) c.args.k (lines_of c.args.self.now) c.loop-count.count (lines_of c.loop-count.self) c.loop-count.invariant c.loop-count-test.true (lines_of c.list_next.new.self) c.in-Some.opposed c.if-opposed.false c.in-Some.ensures
 
-pub returns : need.returns
-returns g c = all-listed (run-of (setting (g .M·Model .orders (c .args .model .now)) (g .C·Clock .earlier (c .args .clock .now)) (g .M·Model .mark) (g .C·Clock .mark)) (c .args .records .now)) (c .args .k) (lines-of (c .args .self .now)) (c .loop-count .count) (lines-of (c .loop-count .self)) (c .loop-count .inv) (c .loop-count-test .left)
+pub returns : goal.returns
+returns g c = all_listed (run_of (setting (g.M.Model.orders c.args.model.now) (g.C.Clock.earlier c.args.clock.now) g.M.Model.mark g.C.Clock.mark) c.args.records.now) c.args.k (lines_of c.args.self.now) c.loop-count.count (lines_of c.loop-count.self) c.loop-count.invariant c.loop-count-test.false

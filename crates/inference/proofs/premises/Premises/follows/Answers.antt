@@ -1,8 +1,8 @@
-use Rattle·inference·specs.Views.{records-in, lines-in, setting-in}
-use Rattle·inference·proofs.Sound.{follows-stays}
-use Rattle·inference·proofs.premises.Premises.follows.Needs as need
+use Rattle.inference.specs.Views.{records_in, lines_in, setting_in}
+use Rattle.inference.proofs.Sound.{follows_stays}
+use Rattle.inference.proofs.premises.Premises.follows.Goals as goal
 
-pub returns : need.returns
+pub returns : goal.returns
 returns g c =
-    let self = c .args .self .now in
-    record { value = c .passes .ensures; stays = follows-stays (setting-in (g .M·Model .orders) (g .C·Clock .earlier) (g .M·Model .mark) (g .C·Clock .mark) self) (records-in self) (lines-in self) (c .args .line) }
+    let self = c.args.self.now in
+    record { value = c.passes.ensures; stays = follows_stays (setting_in g.M.Model.orders g.C.Clock.earlier g.M.Model.mark g.C.Clock.mark self) (records_in self) (lines_in self) c.args.line }

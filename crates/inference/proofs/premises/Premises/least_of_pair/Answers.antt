@@ -1,19 +1,19 @@
-use mathlib.Core.Path.{sym, _∙_}
-use Rattle·inference·specs.Views.{lines-in, run-in}
-use Rattle·inference·proofs.Thirds.{only-zero, only-records, not-new}
-use Rattle·inference·proofs.premises.Premises.least_of_pair.Needs as need
+use Rattle.std.proofs.Common.{sym, ◌∙◌}
+use Rattle.inference.specs.Views.{lines_in, run_in}
+use Rattle.inference.proofs.Thirds.{only_zero, only_records, not_new}
+use Rattle.inference.proofs.premises.Premises.least_of_pair.Goals as goal
 
-pub returns-then-not-has-third : need.returns-then-not-has-third
+pub returns-then-not-has-third : goal.returns-then-not-has-third
 returns-then-not-has-third g c =
-    let self = c .args .self .now in
-    c .if-fits .ensures ∙ only-zero (run-in (g .M·Model .orders) (g .C·Clock .earlier) (g .M·Model .mark) (g .C·Clock .mark) self) (lines-in self) (c .args .rule) (c .args .first) (c .args .second) (sym (c .if-not-has-third .ensures tt))
+    let self = c.args.self.now in
+    c.if_fits.ensures ∙ only_zero (run_in g.M.Model.orders g.C.Clock.earlier g.M.Model.mark g.C.Clock.mark self) (lines_in self) c.args.rule c.args.first c.args.second (sym c.if-not-has-third.ensures)
 
-pub returns-then-is-listed : need.returns-then-is-listed
+pub returns-then-is-listed : goal.returns-then-is-listed
 returns-then-is-listed g c =
-    let self = c .args .self .now in
-    sym (not-new (run-in (g .M·Model .orders) (g .C·Clock .earlier) (g .M·Model .mark) (g .C·Clock .mark) self) (lines-in self) (c .args .rule) (c .args .first) (c .args .second) (sym (c .if-is-listed .ensures tt)))
+    let self = c.args.self.now in
+    sym (not_new (run_in g.M.Model.orders g.C.Clock.earlier g.M.Model.mark g.C.Clock.mark self) (lines_in self) c.args.rule c.args.first c.args.second (sym c.if-is-listed.ensures))
 
-pub returns : need.returns
+pub returns : goal.returns
 returns g c =
-    let self = c .args .self .now in
-    c .least-third .ensures ∙ only-records (run-in (g .M·Model .orders) (g .C·Clock .earlier) (g .M·Model .mark) (g .C·Clock .mark) self) (lines-in self) (c .args .rule) (c .args .first) (c .args .second) (sym (c .if-not-has-third .ensures tt))
+    let self = c.args.self.now in
+    c.least-third.ensures ∙ only_records (run_in g.M.Model.orders g.C.Clock.earlier g.M.Model.mark g.C.Clock.mark self) (lines_in self) c.args.rule c.args.first c.args.second (sym c.if-not-has-third.ensures)

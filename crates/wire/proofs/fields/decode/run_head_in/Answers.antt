@@ -1,6 +1,6 @@
-use borrow.Author.Needs.{needs}
-use Rattle·wire·proofs.Digits.{three}
-use Rattle·wire·proofs.fields.decode.run_head_in.Needs as need
+use Rattle.std.proofs.Common.{rules}
+use Rattle.wire.proofs.Digits.{three}
+use Rattle.wire.proofs.fields.decode.run_head_in.Goals as goal
 
-pub returns : need.returns
-returns c = record { value = search needs; back = three _ (c .pre) }
+pub returns : goal.returns
+returns c = record { value = search rules; back = three _ c.requires }

@@ -1,8 +1,0 @@
-use mathlib.Core.Path.{_≡_}
-use Rattle·std.specs.declared.option.Option.the-variants.{None}
-use Rattle·inference·specs.Next.{seek, tried}
-use Rattle·inference·specs.Views.{lines-in, run-in}
-use Rattle·inference·proofs.premises.Premises.least_third.Given as given
-
-abbrev pub Inv-loop-i : given.InvT-loop-i
-Inv-loop-i g l = seek (tried (run-in (g .M·Model .orders) (g .C·Clock .earlier) (g .M·Model .mark) (g .C·Clock .mark) (l .self)) (lines-in (l .self)) (l .rule) (l .first) (l .second)) (l .i) ≡ None
