@@ -1,4 +1,6 @@
 // The case: opened, records admitted, sealed, and looked at.
+#![tactic(auto)]
+
 pub mod cases;
 pub mod progress;
 pub mod stages;

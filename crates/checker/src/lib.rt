@@ -1,4 +1,6 @@
 // What the program answers: a run's bytes in, slip and paper or a notice out.
+#![tactic(auto)]
+
 ghost use Rattle.std.specs.Prelude.{◌≡◌, ◌≤◌, true, length, take, is_ok, IfOk, slice_index};
 ghost use Rattle.checker.specs.Output.{concluded, verdict_bytes, output, answer_to, OutputClaims};
 ghost use Rattle.checker.specs.Sound.{SoundHistories};

@@ -1,4 +1,6 @@
 // Tells in plain words what the checker does with a run, from the first byte to the paper.
+#![tactic(auto)]
+
 ghost use Rattle.std.specs.Prelude.{◌≡◌, ◌<◌, true, length, slice_index};
 
 mod finding;
@@ -12,6 +14,7 @@ use anyhow::anyhow;
 use intake::{ROOM, Request, asked, read_input};
 use memory::limits::INPUT_LIMIT;
 use memory::models::{Godson, Model, Sc};
+use std::process::ExitCode;
 
 const USAGE: &str = "explain: tells in plain words what the checker does with a run
 
@@ -63,13 +66,13 @@ fn run(rt: &HostRuntime) -> anyhow::Result<Outcome> {
 }
 
 // What goes wrong with the program itself is told on standard error; a refused run has been told by then.
-fn main(rt: HostRuntime) -> anyhow::Result<()> {
+fn main(rt: HostRuntime) -> ExitCode {
     match run(&rt) {
-        Ok(Outcome::Answered) => Ok(()),
-        Ok(Outcome::Refused) => Err(anyhow!("the run was refused")),
+        Ok(Outcome::Answered) => ExitCode::SUCCESS,
+        Ok(Outcome::Refused) => ExitCode::FAILURE,
         Err(error) => {
-            eprintln!(rt; "explain: {error}")?;
-            Err(error)
+            let _ = eprintln!(rt; "explain: {error}");
+            ExitCode::FAILURE
         }
     }
 }

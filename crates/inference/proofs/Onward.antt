@@ -3,7 +3,7 @@ use Rattle.std.proofs.Common.{◌≡◌, ℕ, zero, suc, ◌+◌, ◌-◌, ◌<�
 use Rattle.std.proofs.lemmas.Bool.{true≢false}
 use Rattle.memory.specs.declared.lines.Line.{Line}
 use Rattle.memory.specs.Runs.{Run}
-use Rattle.inference.specs.Listing.{Listing, Lists, enough, last, stop, onward, Out, one_more, list_by, list_next, list_lines}
+use Rattle.inference.specs.Listing.{Listing, Lists, enough, last, stop, onward, Out, list_by, list_next, list_lines}
 use Rattle.inference.specs.Next.{Next, next}
 use Rattle.inference.specs.Views.{Took}
 use Rattle.inference.specs.Worth.{opposes}

@@ -12,7 +12,7 @@ use Rattle.memory.specs.Legal.{writes, Legal, NoOrder}
 use Rattle.memory.specs.Reading.{reads_from}
 use Rattle.memory.specs.Runs.{Setting, Run, Known, run_of, keeps, blank, at}
 use Rattle.memory.proofs.Lawful.{lawful_all}
-use Rattle.inference.specs.Rules.{known, has_pair, listed, reads, rivals, overwritten, some, by_rule, names_third, third_fits, follows}
+use Rattle.inference.specs.Rules.{known, has_pair, listed, reads, rivals, overwritten, by_rule, names_third, third_fits, follows}
 use Rattle.inference.specs.Worth.{Holds, Stays}
 use Rattle.inference.proofs.Follows.{known_is, is_known, following}
 use Rattle.inference.proofs.Listed.{listed_push}

@@ -1,11 +1,11 @@
 -- Which thirds need be looked at. Assumes nothing.
-use Rattle.std.proofs.Common.{◌≡◌, ℕ, ◌<◌, Bool, true, false, not, ◌&&◌, eqb, List, Some, None, Option, sym, refl, ap, ◌∙◌, arith}
+use Rattle.std.proofs.Common.{◌≡◌, ℕ, true, false, not, eqb, List, Some, None, Option, sym, refl, ap, ◌∙◌, arith}
 use Rattle.std.proofs.lemmas.Bool.{and_left, and_right, ne_eqb, not_from_true}
 use Rattle.memory.specs.declared.lines.Line.{Line}
 use Rattle.memory.specs.declared.lines.Rule.{Rule}
 use Rattle.memory.specs.Runs.{Run}
 use Rattle.inference.specs.Rules.{known, listed, by_rule, names_third, third_fits, follows}
-use Rattle.inference.specs.Next.{fits, or_else, seek, line_of, if_fits, tried, least_of_pair}
+use Rattle.inference.specs.Next.{or_else, seek, line_of, if_fits, tried, least_of_pair}
 use Rattle.inference.proofs.Loops.{seek_none}
 
 or_none : {X : Type 0} (o : Option X) → or_else o None ≡ o

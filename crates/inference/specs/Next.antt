@@ -1,5 +1,5 @@
 -- The line that is listed next: the least that follows with a new pair. Assumes nothing.
-use Rattle.std.specs.Prelude.{◌≡◌, ℕ, zero, suc, ◌<◌, ◌≤◌, Bool, true, false, cond, not, ◌&&◌, ◌⊎◌, List, Some, None, Option}
+use Rattle.std.specs.Prelude.{◌≡◌, ℕ, zero, suc, ◌<◌, ◌≤◌, Bool, true, false, not, ◌&&◌, ◌⊎◌, List, Some, None, Option}
 use Rattle.memory.specs.declared.lines.Line.{Line}
 use Rattle.memory.specs.declared.lines.Rule.{Rule}
 use Rattle.memory.specs.Numbers.{rule_number, last_rule, rule_at}

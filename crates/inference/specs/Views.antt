@@ -1,5 +1,7 @@
 -- What inference reasons from, as a run and a list of lines, and the list that it makes.
 use Rattle.std.specs.Prelude.{◌≡◌, ℕ, ◌<◌, ◌≤◌, Bool, List, [], ◌∷◌, ◌++◌, length, Some, None, Ok, Err, vec_items, Option, Result}
+use Rattle.memory.specs.declared.models.Model as model
+use Rattle.memory.specs.declared.clocks.Clock as clock
 use Rattle.memory.specs.declared.kinds.Kind.{Kind}
 use Rattle.memory.specs.declared.lines.Line.{Line}
 use Rattle.memory.specs.declared.records.Record.{Record}
@@ -13,23 +15,23 @@ use Rattle.inference.specs.declared.premises.Premises.{Premises}
 use Rattle.inference.specs.Listing.{Listing, list_lines}
 use Rattle.inference.specs.Worth.{opposes}
 
-module _ {M C : Type 0} where
-  abbrev pub records_in : Premises M C → List Record
+module _ {M C : Type 0} {g : model.Ghosts M} {h : clock.Ghosts C} where
+  abbrev pub records_in : Premises M C g h → List Record
   records_in p = p.records.now
 
-  abbrev pub lines_in : Premises M C → List Line
+  abbrev pub lines_in : Premises M C g h → List Line
   lines_in p = p.lines.now
 
   -- a is the number of one of the records
-  abbrev pub Numbers : Premises M C → ℕ → Type 0
+  abbrev pub Numbers : Premises M C g h → ℕ → Type 0
   Numbers p a = (0 < a) × (a ≤ length (records_in p))
 
   -- the model and the clock, by what models and clocks of their kinds say, and by their marks
-  abbrev pub setting_in : (M → Kind → Kind → Bool → Bool) → (C → ℕ → ℕ → ℕ → ℕ → Bool) → ℕ → ℕ → Premises M C → Setting
+  abbrev pub setting_in : (M → Kind → Kind → Bool → Bool) → (C → ℕ → ℕ → ℕ → ℕ → Bool) → ℕ → ℕ → Premises M C g h → Setting
   setting_in orders earlier m c p = setting (orders p.model.now) (earlier p.clock.now) m c
 
   -- the run that the records make under them
-  abbrev pub run_in : (M → Kind → Kind → Bool → Bool) → (C → ℕ → ℕ → ℕ → ℕ → Bool) → ℕ → ℕ → Premises M C → Run
+  abbrev pub run_in : (M → Kind → Kind → Bool → Bool) → (C → ℕ → ℕ → ℕ → ℕ → Bool) → ℕ → ℕ → Premises M C g h → Run
   run_in orders earlier m c p = run_of (setting_in orders earlier m c p) (records_in p)
 
 abbrev pub lines_of : Lines → List Line

@@ -1,6 +1,9 @@
 // What both programs take: their arguments, and the bytes of a run on standard input.
+#![tactic(auto)]
+
 ghost use Rattle.std.specs.Prelude.{◌≤◌, IfOk};
 
+use anyhow::anyhow;
 use memory::limits::INPUT_LIMIT;
 use std::io::Read;
 use std::{env, io};
@@ -16,18 +19,15 @@ pub enum Request {
 }
 
 // An error that says what could not be read.
-fn unreadable(rt: &HostRuntime, what: &str, error: io::Error) -> anyhow::Error {
-    match format!(in rt.alloc(); "{what} cannot be read: {error}") {
-        Ok(text) => text.into(),
-        Err(memory) => memory.into(),
-    }
+fn unreadable(what: &str, error: io::Error) -> anyhow::Error {
+    anyhow!("{what} cannot be read: {error}")
 }
 
 // What the arguments after the program's own name ask for.
 pub fn asked(rt: &HostRuntime) -> anyhow::Result<Request> {
     let mut words = match env::args(rt) {
         Ok(words) => words,
-        Err(error) => return Err(unreadable(rt, "an argument", error)),
+        Err(error) => return Err(unreadable("an argument", error)),
     };
     let _ = words.next();
     let Some(word) = words.next() else {
@@ -61,6 +61,6 @@ pub fn read_input(rt: &HostRuntime, buffer: &mut [u8; ROOM]) -> anyhow::Result<u
 {
     match fill(rt, buffer) {
         Ok(n) => Ok(n),
-        Err(error) => Err(unreadable(rt, "standard input", error)),
+        Err(error) => Err(unreadable("standard input", error)),
     }
 }

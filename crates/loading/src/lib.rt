@@ -1,4 +1,6 @@
 // Loading a run from its bytes into a case.
+#![tactic(auto)]
+
 ghost use Rattle.std.specs.Prelude.{◌≡◌, [], IfOk, OnOk};
 ghost use Rattle.memory.specs.Runs.{setting, run_of};
 ghost use Rattle.wire.specs.Fields.{record_field};

@@ -1,13 +1,12 @@
 -- Admission keeps the rules of records. Assumes nothing.
-use Rattle.std.proofs.Common.{◌≡◌, ℕ, zero, suc, ◌+◌, ◌<◌, ◌≤◌, Bool, true, false, cond, not, ◌&&◌, ◌||◌, eqb, ltb, leb, ◌⊎◌, List, [], ◌∷◌, ◌++◌, length, get_or, is_ok, Ok, fold, sym, refl, ap, ◌∙◌, subst, inl, inr, ⊎_elim, append_assoc, append-nil, arith, length-append}
+use Rattle.std.proofs.Common.{◌≡◌, ℕ, ◌+◌, ◌<◌, ◌≤◌, true, false, cond, ◌&&◌, eqb, ltb, leb, List, [], ◌∷◌, ◌++◌, length, is_ok, Ok, sym, refl, ap, ◌∙◌, subst, ⊎_elim, append_assoc, append-nil, arith, length-append}
 use Rattle.std.proofs.lemmas.List.{get_or_append_left, get_or_push}
 use Rattle.std.proofs.lemmas.List.Sums.{fold_push}
-use Rattle.std.proofs.lemmas.Bool.{and_parts, and_from, or_parts, eq-eqb, eqb-true, leb-false, ltb-false, cases_eq, cases_lt, cases_Bool, cond-true, cond-false, both_ways, ne_eqb}
+use Rattle.std.proofs.lemmas.Bool.{and_parts, and_from, or_parts, eq-eqb, leb-false, ltb-false, cases_eq, cond-true, cond-false, both_ways, ne_eqb}
 use Rattle.std.proofs.lemmas.Bool.Decides.{nat_tests}
 use Rattle.memory.specs.declared.kinds.Kind.{Kind}
-use Rattle.memory.specs.declared.records.Entry.{Entry}
 use Rattle.memory.specs.declared.records.Record.{Record}
-use Rattle.memory.specs.Admission.{logged, full, stranger, blank_entry, beyond, last_enter, backward, same_store, twin, judgement, admits}
+use Rattle.memory.specs.Admission.{logged, blank_entry, last_enter, same_store, twin, judgement, admits}
 use Rattle.memory.specs.Kinds.{is_store, is_fence}
 use Rattle.memory.specs.Lawful.{Lawful, nth}
 use Rattle.memory.specs.Limits.{most_records, reading_limit}

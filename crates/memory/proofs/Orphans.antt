@@ -1,5 +1,5 @@
 -- A run with an orphan has no legal order, and the empty order of the empty run is legal. Assumes nothing.
-use Rattle.std.proofs.Common.{◌≡◌, ℕ, zero, suc, ◌-◌, ◌<◌, ◌≤◌, Bool, true, false, cond, not, ◌&&◌, ◌||◌, eqb, ◌⊎◌, List, [], ◌∷◌, length, get_or, take, fold, sym, refl, ap, ◌∙◌, subst, inl, inr, ⊎_elim, arith}
+use Rattle.std.proofs.Common.{◌≡◌, ℕ, ◌-◌, ◌<◌, ◌≤◌, Bool, true, false, cond, not, eqb, ◌⊎◌, List, [], ◌∷◌, length, get_or, take, fold, sym, refl, ap, ◌∙◌, subst, inl, inr, ⊎_elim, arith}
 use Rattle.std.specs.List.{AllByRecursion as All}
 use Rattle.std.proofs.ByRecursion.{All-take}
 use Rattle.std.proofs.lemmas.Bool.{and_parts, and_from, eq-eqb, not-true, both_ways, eqb-false}
@@ -8,7 +8,7 @@ use Rattle.memory.specs.Kinds.{is_load, is_store}
 use Rattle.memory.specs.Lists.{any}
 use Rattle.memory.specs.Runs.{Setting, Run, Known, run_of, blank, at}
 use Rattle.memory.specs.Legal.{writes, memory, Legal, NoOrder}
-use Rattle.memory.specs.Reading.{reads_from, unread, orphan}
+use Rattle.memory.specs.Reading.{reads_from, orphan}
 use Rattle.memory.proofs.Loops.{none_at}
 use Rattle.memory.proofs.Present.{Distinct, distinct, present}
 

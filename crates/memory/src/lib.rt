@@ -1,4 +1,6 @@
 // What a run is: kinds, entries and records, models and clocks, lines, verdicts and refusals, and the rules of admission.
+#![tactic(auto)]
+
 pub mod admission;
 pub mod clocks;
 pub mod kinds;

@@ -1,10 +1,12 @@
 // Tests of the checker: its calls, its bytes and what they answer.
+#![tactic(auto)]
+
 #[cfg(test)]
 mod admission;
 #[cfg(test)]
-mod inference;
+mod lines;
 #[cfg(test)]
-mod loading;
+mod loads;
 #[cfg(test)]
 mod models;
 #[cfg(test)]
@@ -14,4 +16,4 @@ mod stages;
 #[cfg(test)]
 mod tools;
 #[cfg(test)]
-mod writing;
+mod written;

@@ -1,5 +1,6 @@
 // Fields as the reader hands them on, and bytes that no case writes yet.
 use memory::refusals::{Fault, Layer, Refusal};
+use std::process::Abort;
 use wire::faults::ByteFault;
 use wire::fields::{Field, Part, Reader};
 use wire::writing::{Paper, PaperHead, write_notice, write_paper};
@@ -58,17 +59,22 @@ fn first(bytes: &[u8]) -> Seen<'_> {
     seen(reader.next())
 }
 
+// It has this name, stands at 0 and has no content.
+fn first_is(rt: &impl Abort, bytes: &[u8], name: &'static str) {
+    assert_eq!(rt; first(bytes), (name, 0, &[][..]), "{bytes:?}");
+}
+
 #[test]
 fn a_paper_has_no_field_of_a_run_and_no_end_with_content(rt: HostRuntime) {
-    assert_eq!(rt; first(&[0x1f, 0, 0]), ("end", 0, &[][..]));
-    assert_eq!(rt; first(&[0x1f, 0, 1, 7]), ("fault", 0, &[][..]));
-    assert_eq!(rt; first(&[0x12, 0, 0]), ("order", 0, &[][..]));
-    assert_eq!(rt; first(&[0x13, 0, 1]), ("fault", 0, &[][..]));
-    assert_eq!(rt; first(&[0x12, 1, 0, 7]), ("fault", 0, &[][..]));
-    assert_eq!(rt; first(&[0x1f, 0]), ("fault", 0, &[][..]));
-    assert_eq!(rt; first(&[]), ("fault", 0, &[][..]));
+    first_is(&rt, &[0x1f, 0, 0], "end");
+    first_is(&rt, &[0x1f, 0, 1, 7], "fault");
+    first_is(&rt, &[0x12, 0, 0], "order");
+    first_is(&rt, &[0x13, 0, 1], "fault");
+    first_is(&rt, &[0x12, 1, 0, 7], "fault");
+    first_is(&rt, &[0x1f, 0], "fault");
+    first_is(&rt, &[], "fault");
     for tag in [0x00, 0x01, 0x02, 0x03, 0x0f, 0x14, 0x1d, 0x1e, 0x20, 0xff] {
-        assert_eq!(rt; first(&[tag, 0, 0]), ("fault", 0, &[][..]), "{}", tag);
+        first_is(&rt, &[tag, 0, 0], "fault");
     }
     // a fault leaves the reader where it was
     let mut reader = Reader::over_paper(&[0x12, 0, 1, 5, 0x1f, 0, 1, 7]);

@@ -79,6 +79,10 @@ records_long = fields_long record_field 33 (λ r. refl)
 pub all_of_end : (rs : List Record) (r : Record) → all_of record_field (rs ++ r ∷ []) ≡ all_of record_field rs ++ record_field r
 all_of_end = fields_end record_field
 
+pub records_more : (out : List ℕ) (rs : List Record) (start i at : ℕ) (d : Record) → i < length rs → at ≡ start + 33 * i → at + 33 ≤ length out →
+    over (over out start (all_of record_field (take i rs))) at (record_field (get_or rs i d)) ≡ over out start (all_of record_field (take (i + 1) rs))
+records_more = fields_more record_field 33 (λ r. refl)
+
 pub lines_long : (ls : List Line) → length (lines_body ls) ≡ 7 * length ls
 lines_long = fields_long line_field 7 (λ l. refl)
 

@@ -1,11 +1,9 @@
 -- The fields of bytes, for a reader that stands at a place. Assumes nothing.
-use Rattle.std.proofs.Common.{◌≡◌, ℕ, zero, suc, ◌+◌, ◌-◌, ◌*◌, ◌/◌, ◌%◌, ◌<◌, ◌≤◌, Bool, true, false, leb, ◌⊎◌, List, [], ◌∷◌, ◌++◌, length, get_or, take, drop, Err, sym, refl, ap, ◌∙◌, subst, inl, inr, ⊎_elim, arith, length-take-le}
+use Rattle.std.proofs.Common.{◌≡◌, ℕ, zero, suc, ◌+◌, ◌*◌, ◌/◌, ◌%◌, ◌<◌, ◌≤◌, Bool, true, false, leb, List, [], ◌∷◌, ◌++◌, length, get_or, take, drop, sym, refl, ap, ◌∙◌, ⊎_elim, arith, length-take-le}
 use Rattle.std.proofs.lemmas.List.{drop_more, drop_all, drop-drop, length-drop, take-append-drop}
 use Rattle.std.proofs.lemmas.Bool.{le-leb, lt-leb, cases_lt}
-use Rattle.wire.specs.Fields.{Piece, whole, broken, piece_on, pieces_in, pieces, next_field, fault_at}
+use Rattle.wire.specs.Fields.{whole, broken, piece_on, pieces_in, pieces, next_field}
 use Rattle.wire.specs.Framed.{Framed, Unframed}
-use Rattle.wire.specs.Bytes.{digits, field}
-use Rattle.wire.specs.declared.fields.Text.{Text}
 
 -- more fuel than there are bytes changes nothing
 pub fuel : (k j : ℕ) (bs : List ℕ) → length bs ≤ k → length bs ≤ j → pieces_in k bs ≡ pieces_in j bs

@@ -1,11 +1,10 @@
 -- What a field of the code is, and what reading one does.
-use Rattle.std.specs.Prelude.{◌≡◌, ℕ, ◌+◌, List, [], ◌++◌, length, drop, Ok, Err, Result}
+use Rattle.std.specs.Prelude.{◌≡◌, ◌+◌, List, [], ◌++◌, length, drop, Ok, Err, Result}
 use Rattle.wire.specs.declared.faults.ByteFault.{ByteFault}
 use Rattle.wire.specs.declared.fields.Field.{Field}
 use Rattle.wire.specs.declared.fields.Field.TheVariants.{Head, Record, Line, Order, Orphan, End}
 use Rattle.wire.specs.declared.fields.Part.{Part}
 use Rattle.wire.specs.declared.fields.Reader.{Reader}
-use Rattle.wire.specs.declared.fields.Text.{Text}
 use Rattle.wire.specs.Bytes.{field}
 use Rattle.wire.specs.Fields.{Piece, pieces, Sort, head_field, record_field, line_field, order_field, orphan_field, end_field, tag_of, Shown, later}
 

@@ -1,4 +1,6 @@
 // Bytes: a reader that walks lent bytes field by field, what its fields say, and encoders into lent bytes.
+#![tactic(auto)]
+
 pub mod faults;
 pub mod fields;
 pub mod tags;

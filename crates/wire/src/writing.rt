@@ -1,5 +1,5 @@
 // Encoders into lent bytes. Where the bytes are too few, nothing is written.
-ghost use Rattle.std.specs.Prelude.{◌≡◌, ◌+◌, ◌*◌, ◌≤◌, [], ◌∷◌, length, nat_le};
+ghost use Rattle.std.specs.Prelude.{◌≡◌, ◌+◌, ◌*◌, ◌^◌, ◌<◌, ◌≤◌, [], ◌∷◌, length, nat_le};
 ghost use Rattle.memory.specs.Admission.{logged};
 ghost use Rattle.memory.specs.Numbers.{rule_number, verdict_number, refusal_number, layer_number};
 ghost use Rattle.wire.specs.Bytes.{digits, field, all_of, entry_bytes, record_field, lines_body, run_bytes, slip_bytes, paper_bytes, notice_bytes};
@@ -136,13 +136,6 @@ fn put_lines(out: &mut [u8], start: usize, lines: &[Line]) -> usize
     at
 }
 
-// So many bytes hold a paper of so many lines.
-fn lines_fit(room: usize, lines: usize) -> bool
-    ensures { result ≡ nat_le (10 + 7 * lines) room }
-{
-    room >= 10 && lines <= (room - 10) / 7
-}
-
 impl Paper<'_> {
     fn number(self) -> u8
         ensures { result ≡ paper_number self.entry }
@@ -154,14 +147,14 @@ impl Paper<'_> {
         }
     }
 
-    // So many bytes hold the paper.
-    fn fits(self, room: usize) -> bool
-        ensures { result ≡ nat_le (10 + length (paper_body self.entry)) room }
+    fn body_len(self) -> usize
+        ensures length { result ≡ length (paper_body self.entry) }
+        ensures small { result + 10 < 2 ^ 64 }
     {
         match self {
-            Paper::Order(order) => 13 + order.len() <= room,
-            Paper::Opposed(lines) => lines_fit(room, lines.len()),
-            Paper::Orphan(_) => 14 <= room,
+            Paper::Order(order) => 3 + order.len(),
+            Paper::Opposed(lines) => 7 * lines.len(),
+            Paper::Orphan(_) => 4,
         }
     }
 
@@ -182,7 +175,7 @@ impl Paper<'_> {
 pub fn write_paper(out: &mut [u8], head: PaperHead, paper: Paper<'_>) -> Result<usize, TooShort>
     ensures { Written (paper_bytes (paper_number paper.entry) head.model head.clock head.records (paper_body paper.entry)) out.old out.new result }
 {
-    if !paper.fits(out.len()) {
+    if out.len() < 10 + paper.body_len() {
         return Err(TooShort);
     }
     let body = put_field(

@@ -1,4 +1,6 @@
 // Writing a case's run, slip and paper into lent bytes.
+#![tactic(auto)]
+
 ghost use Rattle.std.specs.Prelude.{length};
 ghost use Rattle.wire.specs.Bytes.{paper_bytes};
 ghost use Rattle.wire.specs.Written.{paper_number, paper_body};

@@ -1,8 +1,11 @@
 // The checker as a program: a run's bytes on standard input, slip and paper or a notice on standard output.
+#![tactic(auto)]
+
 use anyhow::anyhow;
 use checker::answer;
 use intake::{ROOM, Request, asked, read_input};
 use std::io::Write;
+use std::process::ExitCode;
 use wire::tags;
 
 // Writes the answer; a notice is an error, so that the exit status tells of it.
@@ -40,10 +43,13 @@ fn choose(rt: &HostRuntime) -> anyhow::Result<()> {
     }
 }
 
-fn main(rt: HostRuntime) -> anyhow::Result<()> {
-    let done = choose(&rt);
-    if let Err(e) = &done {
-        eprintln!(rt; "zielwart: {e}")?;
+// What goes wrong, and that a run is refused, is told on standard error.
+fn main(rt: HostRuntime) -> ExitCode {
+    match choose(&rt) {
+        Ok(()) => ExitCode::SUCCESS,
+        Err(error) => {
+            let _ = eprintln!(rt; "zielwart: {error}");
+            ExitCode::FAILURE
+        }
     }
-    done
 }

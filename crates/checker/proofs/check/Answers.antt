@@ -12,20 +12,20 @@ use Rattle.checker.proofs.Answered.{output_is, claims_are, loaded_claims}
 use Rattle.checker.proofs.check.Goals as goal
 use Rattle.checker.proofs.check.Goals.{in-Ok, in-Err}
 
-pub returns-in-err-case : goal.returns-in-err-case
-returns-in-err-case g c =
+pub returns-in_err-case : goal.returns-in_err-case
+returns-in_err-case g c =
     let S : Setting = setting (g.M.Model.orders c.args.model) (g.C.Clock.earlier c.args.clock) g.M.Model.mark g.C.Clock.mark in
-    let p = err_from_is_err_and c.from-residual.result c.from-residual.ensures.1 in
+    let p = err_from_is_err_and c.from_residual.result c.from_residual.ensures.1 in
     record {
       bytes = subst (λ r. IfOk r (λ v. vec_items v ≡ output S c.args.bytes.now)) (sym p.1) tt;
       claims = λ ok. absurd (true≢false (sym ok ∙ ap is_ok p.1));
       sound = sound_histories S;
     }
 
-pub returns-in-err-room : goal.returns-in-err-room
-returns-in-err-room g c =
+pub returns-in_err-room : goal.returns-in_err-room
+returns-in_err-room g c =
     let S : Setting = setting (g.M.Model.orders c.args.model) (g.C.Clock.earlier c.args.clock) g.M.Model.mark g.C.Clock.mark in
-    let p = err_from_is_err_and c.from-residual-in-err-room.result c.from-residual-in-err-room.ensures.1 in
+    let p = err_from_is_err_and c.from_residual-in_err-room.result c.from_residual-in_err-room.ensures.1 in
     record {
       bytes = subst (λ r. IfOk r (λ v. vec_items v ≡ output S c.args.bytes.now)) (sym p.1) tt;
       claims = λ ok. absurd (true≢false (sym ok ∙ ap is_ok p.1));
@@ -36,13 +36,13 @@ pub returns : goal.returns
 returns g c =
     let S : Setting = setting (g.M.Model.orders c.args.model) (g.C.Clock.earlier c.args.clock) g.M.Model.mark g.C.Clock.mark in
     let bs : List ℕ = c.args.bytes.now in
-    let made-case = c.in-ok-case.ensures in
+    let made-case = c.in_ok-case.ensures in
     let loaded = c.load.ensures in
-    let s : State = view c.in-ok-case.case in
+    let s : State = view c.in_ok-case.case in
     let t : State = view c.load.new.case in
     let now : setting (g.M.Model.orders c.load.new.case.model) (g.C.Clock.earlier c.load.new.case.clock) g.M.Model.mark g.C.Clock.mark ≡ S =
     (let m = loaded.model ∙ made-case.1 in let k = loaded.clock ∙ made-case.2 in λ i. setting (g.M.Model.orders (m i)) (g.C.Clock.earlier (k i)) g.M.Model.mark g.C.Clock.mark) in
-    let before : setting (g.M.Model.orders c.in-ok-case.case.model) (g.C.Clock.earlier c.in-ok-case.case.clock) g.M.Model.mark g.C.Clock.mark ≡ S =
+    let before : setting (g.M.Model.orders c.in_ok-case.case.model) (g.C.Clock.earlier c.in_ok-case.case.clock) g.M.Model.mark g.C.Clock.mark ≡ S =
     (let m = made-case.1 in let k = made-case.2 in λ i. setting (g.M.Model.orders (m i)) (g.C.Clock.earlier (k i)) g.M.Model.mark g.C.Clock.mark) in
     let is = output_is S bs s t made-case.0 c.load.result loaded.answer loaded.state in
     record {
@@ -50,13 +50,13 @@ returns g c =
           c.truncate.ensures.items
           ∙ elim c.match-load.branch [
             | in-Ok w ↦ (let n = w.n-is in let room = w.room-is in λ i. take (n i) (vec_items (room i)))
-                ∙ ap (take w.write-verdict-n.result) (with_items_is c.in-ok-room.room w.write-verdict-n.new.room (omega (arith, w.write-verdict-n.auto.room, w.as-mut-slice.ensures.len)))
-                ∙ w.write-verdict-n.ensures.bytes
+                ∙ ap (take w.write_verdict-n.result) (with_items_is c.in_ok-room.room w.write_verdict-n.new.room (omega (arith, w.write_verdict-n.auto.room, w.as_mut_slice.ensures.len)))
+                ∙ w.write_verdict-n.ensures.bytes
                 ∙ ap (verdict_bytes g.M.Model.mark g.C.Clock.mark) (w.conclude.ensures ∙ ap (λ T. concluded T w.in-Ok.verdict t) now)
                 ∙ ap (λ r. output_by S r t) (sym w.in-Ok.is) ∙ is
             | in-Err w ↦ (let n = w.n-is in let room = w.room-is in λ i. take (n i) (vec_items (room i)))
-                ∙ ap (take w.write-refusal-n.result) (with_items_is c.in-ok-room.room w.write-refusal-n.new.room (omega (arith, w.write-refusal-n.auto.room, w.as-mut-slice-in-Err.ensures.len)))
-                ∙ w.write-refusal-n.ensures.bytes ∙ ap (λ r. output_by S r t) (sym w.in-Err.is) ∙ is
+                ∙ ap (take w.write_refusal-n.result) (with_items_is c.in_ok-room.room w.write_refusal-n.new.room (omega (arith, w.write_refusal-n.auto.room, w.as_mut_slice-in-Err.ensures.len)))
+                ∙ w.write_refusal-n.ensures.bytes ∙ ap (λ r. output_by S r t) (sym w.in-Err.is) ∙ is
           ];
       claims = λ _.
           claims_are S bs s t made-case.0 c.load.result loaded.answer loaded.state

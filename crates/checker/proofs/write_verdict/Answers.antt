@@ -20,14 +20,14 @@ returns-in-Err g c =
       bytes = front_kept slip (length out - slip) out c.write_paper.new.out (slip_in s) _ told.2 (sym told.0) ∙ sym (append-nil (slip_in s)) ∙ ap (λ l. slip_in s ++ l) (sym none);
     }
 
-pub returns-in-Ok-write-paper : goal.returns-in-Ok-write-paper
-returns-in-Ok-write-paper g c =
+pub returns-in-Ok-write_paper : goal.returns-in-Ok-write_paper
+returns-in-Ok-write_paper g c =
     let s : State = view c.args.case.now in
     let out : List ℕ = c.write_slip.new.out in
     let slip : ℕ = c.in-Ok.slip in
     let told = c.in-Ok.ensures in
-    let paper = some_paper s (paper_in g.M.Model.mark g.C.Clock.mark s) _ _ _ c.in-Ok-write-paper.ensures in
+    let paper = some_paper s (paper_in g.M.Model.mark g.C.Clock.mark s) _ _ _ c.in-Ok-write_paper.ensures in
     record {
       within = omega (arith, paper.0, paper.1, length-take (length out - slip) (drop slip out), length-drop slip out, c.write_slip.auto.out, c.requires);
-      bytes = both_kept slip c.in-Ok-write-paper.paper (length out - slip) out c.write_paper.new.out (slip_in s) (or_none (paper_in g.M.Model.mark g.C.Clock.mark s)) _ _ told.2 (sym told.0) paper.2 (sym paper.0);
+      bytes = both_kept slip c.in-Ok-write_paper.paper (length out - slip) out c.write_paper.new.out (slip_in s) (or_none (paper_in g.M.Model.mark g.C.Clock.mark s)) _ _ told.2 (sym told.0) paper.2 (sym paper.0);
     }

@@ -15,27 +15,27 @@ use Rattle.case.specs.Views.{view}
 use Rattle.loading.proofs.Loads.{stops, follows, loads, seals, fields_at, walked_at, verdict_back}
 use Rattle.loading.proofs.load.Goals as goal
 
-pub returns-in-err-load-fields : goal.returns-in-err-load-fields
-returns-in-err-load-fields g c =
+pub returns-in_err-load_fields : goal.returns-in_err-load_fields
+returns-in_err-load_fields g c =
     let s : State = view c.args.case.now in
-    let t : State = view c.load-head.new.case in
-    let u : State = view c.load-fields.new.case in
+    let t : State = view c.load_head.new.case in
+    let u : State = view c.load_fields.new.case in
     let bs : List ℕ = c.args.bytes.now in
     let m : ℕ = g.M.Model.mark in
     let k : ℕ = g.C.Clock.mark in
-    let reader = c.load-head.new.reader in
-    let to : ℕ = c.load-fields.new.reader.at in
-    let first = c.over-run-reader.ensures.bytes in
-    let passed = c.in-ok-load-head.ensures in
+    let reader = c.load_head.new.reader in
+    let to : ℕ = c.load_fields.new.reader.at in
+    let first = c.over_run-reader.ensures.bytes in
+    let passed = c.in_ok-load_head.ensures in
     let head = subst (λ l. Headed m k s l t reader.at (Ok tt)) first passed.headed in
     let same : reader.bytes.now ≡ bs = ap (λ b. b.now) passed.bytes ∙ first in
-    let e : RunFault = c.in-err-load-fields.field-0.0 in
-    let told = c.in-err-load-fields.ensures in
+    let e : RunFault = c.in_err-load_fields.field-0.0 in
+    let told = c.in_err-load_fields.ensures in
     let fields = fields_at bs reader head.1 same t u (ended_as u (Err e)) told.result in
     let walked = walked_at bs reader head.1 same t u (drop (place_of e)) told.walked in
     let all = stops m k s bs t reader.at head u e fields walked (subst (λ n. n ≤ place_of e) head.1 told.place) in
-    let p = err_from_is_err_and c.from-residual-in-err-load-fields.result c.from-residual-in-err-load-fields.ensures.1 in
-    let is : c.from-residual-in-err-load-fields.result ≡ Err e = p.1 ∙ ap Err p.2 in
+    let p = err_from_is_err_and c.from_residual-in_err-load_fields.result c.from_residual-in_err-load_fields.ensures.1 in
+    let is : c.from_residual-in_err-load_fields.result ≡ Err e = p.1 ∙ ap Err p.2 in
     record {
       answer = is ∙ sym (ap (λ o. o.answer) all.0);
       state = sym (ap (λ o. o.state) all.0);
@@ -47,28 +47,28 @@ returns-in-err-load-fields g c =
       clock = told.clock ∙ passed.clock;
     }
 
-pub returns-in-err-finish : goal.returns-in-err-finish
-returns-in-err-finish g c =
+pub returns-in_err-finish : goal.returns-in_err-finish
+returns-in_err-finish g c =
     let s : State = view c.args.case.now in
-    let t : State = view c.load-head.new.case in
-    let u : State = view c.load-fields.new.case in
+    let t : State = view c.load_head.new.case in
+    let u : State = view c.load_fields.new.case in
     let bs : List ℕ = c.args.bytes.now in
     let m : ℕ = g.M.Model.mark in
     let k : ℕ = g.C.Clock.mark in
-    let reader = c.load-head.new.reader in
-    let to : ℕ = c.load-fields.new.reader.at in
-    let first = c.over-run-reader.ensures.bytes in
-    let passed = c.in-ok-load-head.ensures in
+    let reader = c.load_head.new.reader in
+    let to : ℕ = c.load_fields.new.reader.at in
+    let first = c.over_run-reader.ensures.bytes in
+    let passed = c.in_ok-load_head.ensures in
     let head = subst (λ l. Headed m k s l t reader.at (Ok tt)) first passed.headed in
     let same : reader.bytes.now ≡ bs = ap (λ b. b.now) passed.bytes ∙ first in
-    let told = c.in-ok-load-fields.ensures in
+    let told = c.in_ok-load_fields.ensures in
     let fields = fields_at bs reader head.1 same t u (ended_as u (Ok to)) told.result in
     let walked = walked_at bs reader head.1 same t u (λ l. field 3 [] ++ drop to l) told.walked in
-    let left = c.in-err-finish.ensures in
+    let left = c.in_err-finish.ensures in
     let more : to < length bs = subst (λ l. to < length l) (ap (λ b. b.now) told.bytes ∙ same) left.0 in
     let all = follows m k s bs t reader.at head u to fields walked more in
-    let p = err_from_is_err_and c.from-residual-in-err-finish.result c.from-residual-in-err-finish.ensures.1 in
-    let is : c.from-residual-in-err-finish.result ≡ Err (Bytes (fault_at to)) = p.1 ∙ ap Err p.2 ∙ ap (λ e. Err (Bytes e)) left.1 in
+    let p = err_from_is_err_and c.from_residual-in_err-finish.result c.from_residual-in_err-finish.ensures.1 in
+    let is : c.from_residual-in_err-finish.result ≡ Err (Bytes (fault_at to)) = p.1 ∙ ap Err p.2 ∙ ap (λ e. Err (Bytes e)) left.1 in
     record {
       answer = is ∙ sym (ap (λ o. o.answer) all.0);
       state = sym (ap (λ o. o.state) all.0);
@@ -83,21 +83,21 @@ returns-in-err-finish g c =
 pub returns : goal.returns
 returns g c =
     let s : State = view c.args.case.now in
-    let t : State = view c.load-head.new.case in
-    let u : State = view c.load-fields.new.case in
+    let t : State = view c.load_head.new.case in
+    let u : State = view c.load_fields.new.case in
     let bs : List ℕ = c.args.bytes.now in
     let m : ℕ = g.M.Model.mark in
     let k : ℕ = g.C.Clock.mark in
-    let reader = c.load-head.new.reader in
-    let to : ℕ = c.load-fields.new.reader.at in
-    let first = c.over-run-reader.ensures.bytes in
-    let passed = c.in-ok-load-head.ensures in
+    let reader = c.load_head.new.reader in
+    let to : ℕ = c.load_fields.new.reader.at in
+    let first = c.over_run-reader.ensures.bytes in
+    let passed = c.in_ok-load_head.ensures in
     let head = subst (λ l. Headed m k s l t reader.at (Ok tt)) first passed.headed in
     let same : reader.bytes.now ≡ bs = ap (λ b. b.now) passed.bytes ∙ first in
-    let told = c.in-ok-load-fields.ensures in
+    let told = c.in_ok-load_fields.ensures in
     let fields = fields_at bs reader head.1 same t u (ended_as u (Ok to)) told.result in
     let walked = walked_at bs reader head.1 same t u (λ l. field 3 [] ++ drop to l) told.walked in
-    let end : to ≡ length bs = c.in-ok-finish.ensures ∙ ap length (ap (λ b. b.now) told.bytes ∙ same) in
+    let end : to ≡ length bs = c.in_ok-finish.ensures ∙ ap length (ap (λ b. b.now) told.bytes ∙ same) in
     let all = loads m k s bs t reader.at head u to fields walked end in
     let open' : u.stage ≡ Open = walked.stage ∙ head.4 in
     let closed = c.in-Ok.ensures in
@@ -120,8 +120,8 @@ returns g c =
 
 pub unreachable-requires : goal.unreachable-requires
 unreachable-requires g c =
-    let u : State = view c.load-fields.new.case in
-    let open' : u.stage ≡ Open = c.in-ok-load-fields.ensures.walked.stage ∙ c.in-ok-load-head.ensures.headed.4 in
-    let never = c.in-default.ensures.answer ∙ ap (λ o. o.answer) (seals u open') in
+    let u : State = view c.load_fields.new.case in
+    let open' : u.stage ≡ Open = c.in_ok-load_fields.ensures.walked.stage ∙ c.in_ok-load_head.ensures.headed.4 in
+    let never = c.in_default.ensures.answer ∙ ap (λ o. o.answer) (seals u open') in
     let z : ◌≡◌ {A = ℕ} 0 1 = cc in
     omega arith

@@ -13,8 +13,8 @@ use Rattle.case.specs.Views.{view}
 use Rattle.loading.proofs.Progress.{took, fell_reading, progress_more, at_end, at_fault}
 use Rattle.loading.proofs.load_fields.Goals as goal
 
-pub returns-in-err-field : goal.returns-in-err-field
-returns-in-err-field g c =
+pub returns-in_err-field : goal.returns-in_err-field
+returns-in_err-field g c =
     let reader = c.args.reader.now in
     let before = c.loop-field.reader in
     let after = c.next.new.self in
@@ -22,10 +22,10 @@ returns-in-err-field g c =
     let s : State = view c.args.case.now in
     let t : State = view c.loop-field.case in
     let inv = c.loop-field.invariant in
-    let e : ByteFault = c.in-err-field.field-0.0 in
-    let read = c.in-err-field.ensures in
-    let p = err_from_is_err_and c.from-residual.result c.from-residual.ensures.1 in
-    let is : c.from-residual.result ≡ Err (Bytes e) = p.1 ∙ ap Err p.2 in
+    let e : ByteFault = c.in_err-field.field-0.0 in
+    let read = c.in_err-field.ensures in
+    let p = err_from_is_err_and c.from_residual.result c.from_residual.ensures.1 in
+    let is : c.from_residual.result ≡ Err (Bytes e) = p.1 ∙ ap Err p.2 in
     let here : Err e ≡ next_field Run before.at (pieces (drop before.at bs)) = read.answer ∙ (let text = inv.1 ∙ c.requires.text in let same = inv.0 in λ i. next_field (text i) before.at (pieces (drop before.at (same i).now))) in
     let place : before.at ≡ e.place = sym (ap (λ x. x.place) read.passed.1) in
     let w = inv.2.walked in
@@ -38,23 +38,23 @@ returns-in-err-field g c =
       clock = inv.4;
     }
 
-pub returns-in-err-more : goal.returns-in-err-more
-returns-in-err-more g c =
+pub returns-in_err-more : goal.returns-in_err-more
+returns-in_err-more g c =
     let reader = c.args.reader.now in
     let before = c.loop-field.reader in
     let after = c.next.new.self in
     let bs : List ℕ = reader.bytes.now in
     let s : State = view c.args.case.now in
     let t : State = view c.loop-field.case in
-    let u : State = view c.load-field.new.case in
+    let u : State = view c.load_field.new.case in
     let inv = c.loop-field.invariant in
-    let read = c.in-ok-field.ensures in
+    let read = c.in_ok-field.ensures in
     let k = took before after bs _ (ap (λ b. b.now) inv.0) (inv.1 ∙ c.requires.text) read.answer read.passed c.next.ensures.bytes in
-    let e : RunFault = c.in-err-more.field-0.0 in
-    let told = c.in-err-more.ensures in
+    let e : RunFault = c.in_err-more.field-0.0 in
+    let told = c.in_err-more.ensures in
     let all = at_fault bs reader.at s before.at t inv.2 _ after.at k u e told.turned told.gained in
-    let p = err_from_is_err_and c.from-residual-in-err-more.result c.from-residual-in-err-more.ensures.1 in
-    let is : c.from-residual-in-err-more.result ≡ Err e = p.1 ∙ ap Err p.2 in
+    let p = err_from_is_err_and c.from_residual-in_err-more.result c.from_residual-in_err-more.ensures.1 in
+    let is : c.from_residual-in_err-more.result ≡ Err e = p.1 ∙ ap Err p.2 in
     record {
       result = all.0 ∙ ap (λ r. ended_as u (told_by r after.at)) (sym is);
       walked = subst (λ r. Walked bs reader.at s (left_by r after.at bs) u) (sym is) all.1;
@@ -72,13 +72,13 @@ returns-then-not-more g c =
     let bs : List ℕ = reader.bytes.now in
     let s : State = view c.args.case.now in
     let t : State = view c.loop-field.case in
-    let u : State = view c.load-field.new.case in
+    let u : State = view c.load_field.new.case in
     let inv = c.loop-field.invariant in
-    let read = c.in-ok-field.ensures in
+    let read = c.in_ok-field.ensures in
     let k = took before after bs _ (ap (λ b. b.now) inv.0) (inv.1 ∙ c.requires.text) read.answer read.passed c.next.ensures.bytes in
-    let told = c.in-ok-more.ensures in
+    let told = c.in_ok-more.ensures in
     let stop = c.if-not-more.true in
-    let f : Shown = shown c.in-ok-field.field in
+    let f : Shown = shown c.in_ok-field.field in
     let all = at_end bs reader.at s before.at t inv.2 f after.at k u (subst (λ b. Turned t u f (went_field (Ok b))) stop told.turned) (subst (λ b. Gained t u f (went_field (Ok b))) stop told.gained) in
     record { result = all.0; walked = all.1; place = tt; bytes = read.bytes ∙ inv.0; model = told.model ∙ inv.3; clock = told.clock ∙ inv.4 }
 
@@ -90,12 +90,12 @@ loop-field-preserved g c =
     let bs : List ℕ = reader.bytes.now in
     let s : State = view c.args.case.now in
     let t : State = view c.loop-field.case in
-    let u : State = view c.load-field.new.case in
+    let u : State = view c.load_field.new.case in
     let inv = c.loop-field.invariant in
-    let read = c.in-ok-field.ensures in
+    let read = c.in_ok-field.ensures in
     let k = took before after bs _ (ap (λ b. b.now) inv.0) (inv.1 ∙ c.requires.text) read.answer read.passed c.next.ensures.bytes in
-    let told = c.in-ok-more.ensures in
+    let told = c.in_ok-more.ensures in
     let go = c.if-not-more.false in
-    let f : Shown = shown c.in-ok-field.field in
+    let f : Shown = shown c.in_ok-field.field in
     let on = progress_more bs reader.at s before.at t inv.2 f after.at k u (subst (λ b. Turned t u f (went_field (Ok b))) go told.turned) (subst (λ b. Gained t u f (went_field (Ok b))) go told.gained) in
     (read.bytes ∙ inv.0, read.text ∙ inv.1, on, told.model ∙ inv.3, told.clock ∙ inv.4)

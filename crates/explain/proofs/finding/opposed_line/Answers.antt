@@ -13,18 +13,18 @@ here l ls i b e =
     let back : i + 1 - 1 ≡ i = omega arith in
     ap (λ k. has_pair l.second l.first (get_or ls k blank_line)) back ∙ sym e
 
-pub returns-then-is-reverse : goal.returns-then-is-reverse
-returns-then-is-reverse c =
+pub returns-then-is_reverse : goal.returns-then-is_reverse
+returns-then-is_reverse c =
     let l = c.args.line in
     let ls = c.args.lines.now in
     let i : ℕ = c.loop-i.i in
-    found_here (opposed_to l ls) i (length ls) c.loop-i.invariant c.loop-i-test.true (here l ls i _ c.if-is-reverse.ensures)
+    found_here (opposed_to l ls) i (length ls) c.loop-i.invariant c.loop-i-test.true (here l ls i _ c.if-is_reverse.ensures)
 
 pub loop-i-preserved : goal.loop-i-preserved
 loop-i-preserved c =
     let l = c.args.line in
     let ls = c.args.lines.now in
-    pick_more (opposed_to l ls) c.loop-i.i c.loop-i.invariant (here l ls c.loop-i.i _ c.if-is-reverse.ensures)
+    pick_more (opposed_to l ls) c.loop-i.i c.loop-i.invariant (here l ls c.loop-i.i _ c.if-is_reverse.ensures)
 
 pub returns : goal.returns
 returns c =

@@ -13,18 +13,18 @@ here x rs i b e =
     let back : i + 1 - 1 ≡ i = omega arith in
     ap (λ k. reads_from x (get_or rs k blank)) back ∙ sym e
 
-pub returns-then-reads-from : goal.returns-then-reads-from
-returns-then-reads-from c =
+pub returns-then-reads_from : goal.returns-then-reads_from
+returns-then-reads_from c =
     let x = c.args.load in
     let rs = c.args.records.now in
     let i : ℕ = c.loop-i.i in
-    found_here (read_by x rs) i (length rs) c.loop-i.invariant c.loop-i-test.true (here x rs i _ c.if-reads-from.ensures)
+    found_here (read_by x rs) i (length rs) c.loop-i.invariant c.loop-i-test.true (here x rs i _ c.if-reads_from.ensures)
 
 pub loop-i-preserved : goal.loop-i-preserved
 loop-i-preserved c =
     let x = c.args.load in
     let rs = c.args.records.now in
-    pick_more (read_by x rs) c.loop-i.i c.loop-i.invariant (here x rs c.loop-i.i _ c.if-reads-from.ensures)
+    pick_more (read_by x rs) c.loop-i.i c.loop-i.invariant (here x rs c.loop-i.i _ c.if-reads_from.ensures)
 
 pub returns : goal.returns
 returns c =

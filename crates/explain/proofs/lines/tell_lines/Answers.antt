@@ -4,8 +4,8 @@ use Rattle.explain.proofs.Listed.{of_two_at}
 use Rattle.explain.proofs.lines.tell_lines.Goals as goal
 
 -- a listed line names two of the records that are shown
-pub reason-of-reason-requires : goal.reason-of-reason-requires
-reason-of-reason-requires g c =
+pub reason_of-reason-requires : goal.reason_of-reason-requires
+reason_of-reason-requires g c =
     let rs = c.standing-standing.result.records.now in
     let ls = c.standing-standing.result.lines.now in
     let pairs : paired (length rs) ls ≡ true = subst (λ m. paired m ls ≡ true) (sym (ap (λ s. length s.records) c.standing-standing.ensures.value)) c.standing-standing.ensures.pairs in

@@ -1,4 +1,4 @@
-use Rattle.std.proofs.Common.{◌≡◌, ℕ, ◌+◌, ◌-◌, ◌<◌, Bool, List, length, get_or, Some, None, Option, sym, ap, ◌∙◌, subst, add-one, arith}
+use Rattle.std.proofs.Common.{◌≡◌, ℕ, ◌+◌, ◌-◌, Bool, List, length, get_or, Some, None, Option, sym, ap, ◌∙◌, subst, add-one, arith}
 use Rattle.memory.specs.declared.records.Record.{Record}
 use Rattle.memory.specs.Reading.{unread, orphan, pick, numbered, first_orphan, Least}
 use Rattle.memory.specs.Runs.{blank}
@@ -19,18 +19,18 @@ pub record Found (rs : List Record) (r : Option ℕ) : Type 0 where
 found : (rs : List Record) (r : Option ℕ) → r ≡ first_orphan rs → Found rs r
 found rs r e = record { value = e; least = subst (Least (orphan rs) (length rs)) (sym e) (picked (orphan rs) (length rs)) }
 
-pub returns-then-is-unread : goal.returns-then-is-unread
-returns-then-is-unread c =
+pub returns-then-is_unread : goal.returns-then-is_unread
+returns-then-is_unread c =
     let rs = c.args.records.now in
     let i : ℕ = c.loop-i.i in
-    let is = pick_here (orphan rs) i c.loop-i.invariant (length rs) c.loop-i-test.true (here rs i _ c.if-is-unread.ensures) in
+    let is = pick_here (orphan rs) i c.loop-i.invariant (length rs) c.loop-i-test.true (here rs i _ c.if-is_unread.ensures) in
     let f = found rs (Some (i + 1)) (ap Some (add-one i) ∙ sym (ap numbered is)) in
     record { value = f.value; least = f.least }
 
 pub loop-i-preserved : goal.loop-i-preserved
 loop-i-preserved c =
     let rs = c.args.records.now in
-    pick_more (orphan rs) c.loop-i.i c.loop-i.invariant (here rs c.loop-i.i _ c.if-is-unread.ensures)
+    pick_more (orphan rs) c.loop-i.i c.loop-i.invariant (here rs c.loop-i.i _ c.if-is_unread.ensures)
 
 pub returns : goal.returns
 returns c =

@@ -7,4 +7,4 @@ returns c =
     let at = c.args.at in
     let n = length c.args.bytes.now in
     let same : at + (at + n - at) ≡ at + n = omega arith in
-    put_over _ _ _ at _ c.copy-from-slice.ensures.after same
+    put_over _ _ _ at _ c.copy_from_slice.ensures.after same

@@ -1,13 +1,13 @@
-use Rattle.std.proofs.Common.{◌≡◌, ℕ, ◌+◌, ◌*◌, List, length, get_or, take, refl, ap, ◌∙◌, arith, take_all}
+use Rattle.std.proofs.Common.{◌≡◌, ℕ, List, length, take, refl, ap, ◌∙◌, arith, take_all}
 use Rattle.memory.specs.declared.lines.Line.{Line}
 use Rattle.wire.specs.Bytes.{field, line_field, lines_body}
 use Rattle.wire.specs.Written.{over}
 use Rattle.wire.proofs.Over.{over_none, fields_more, lines_long}
 use Rattle.wire.proofs.writing.put_lines.Goals as goal
 
-pub put-field-at-requires : goal.put-field-at-requires
-put-field-at-requires c =
-    let long : length c.line-content.result ≡ 4 = ap length c.line-content.ensures in
+pub put_field-at-requires : goal.put_field-at-requires
+put_field-at-requires c =
+    let long : length c.line_content.result ≡ 4 = ap length c.line_content.ensures in
     omega (arith, lines_long c.args.lines.now)
 
 pub loop-line-init : goal.loop-line-init
@@ -18,9 +18,9 @@ loop-line-preserved c =
     let ls : List Line = c.args.lines.now in
     let out : List ℕ = c.args.out.now in
     let at : ℕ = c.loop-line.at in
-    let content = c.line-content.ensures in
-    let long : length c.line-content.result ≡ 4 = ap length content in
-    let written = c.put-field-at.ensures.bytes ∙ (λ i. over (c.loop-line.invariant.1 i) at (field 17 (content i))) in
+    let content = c.line_content.ensures in
+    let long : length c.line_content.result ≡ 4 = ap length content in
+    let written = c.put_field-at.ensures.bytes ∙ (λ i. over (c.loop-line.invariant.1 i) at (field 17 (content i))) in
     (omega arith, written ∙ fields_more line_field 7 (λ l. refl) out ls c.args.start c.loop-line.line-index at _ c.loop-line-test.true c.loop-line.invariant.0 (omega (arith, lines_long ls)))
 
 pub returns : goal.returns

@@ -1,9 +1,9 @@
-use Rattle.std.proofs.Common.{◌≡◌, ℕ, ◌+◌, ◌*◌, List, length, get_or, take, refl, ap, ◌∙◌, arith, take_all}
+use Rattle.std.proofs.Common.{◌≡◌, ℕ, List, length, get_or, take, ap, ◌∙◌, arith, take_all}
 use Rattle.memory.specs.declared.records.Record.{Record}
 use Rattle.memory.specs.Runs.{blank}
 use Rattle.wire.specs.Bytes.{field, all_of, record_field}
 use Rattle.wire.specs.Written.{over}
-use Rattle.wire.proofs.Over.{over_none, fields_more}
+use Rattle.wire.proofs.Over.{over_none, records_more}
 use Rattle.wire.proofs.writing.put_records.Goals as goal
 
 pub loop-r-init : goal.loop-r-init
@@ -16,11 +16,11 @@ loop-r-preserved c =
     let i : ℕ = c.loop-r.r-index in
     let at : ℕ = c.loop-r.at in
     let start : ℕ = c.args.start in
-    let content = c.record-content.ensures in
-    let long : length c.record-content.result ≡ 30 = ap length content in
+    let content = c.record_content.ensures in
+    let long : length c.record_content.result ≡ 30 = ap length content in
     let room : length c.loop-r.out ≡ length out = c.loop-r.auto.out in
-    let written = c.put-field-at.ensures.bytes ∙ ap (λ l. over c.loop-r.out at (field 2 l)) content ∙ ap (λ l. over l at (record_field (get_or rs i blank))) c.loop-r.invariant.1 in
-    (omega arith, written ∙ fields_more record_field 33 (λ r. refl) out rs start i at blank c.loop-r-test.true c.loop-r.invariant.0 (omega arith))
+    let written = c.put_field-at.ensures.bytes ∙ ap (λ l. over c.loop-r.out at (field 2 l)) content ∙ ap (λ l. over l at (record_field (get_or rs i blank))) c.loop-r.invariant.1 in
+    (omega arith, written ∙ records_more out rs start i at blank c.loop-r-test.true c.loop-r.invariant.0 (omega arith))
 
 pub returns : goal.returns
 returns c =

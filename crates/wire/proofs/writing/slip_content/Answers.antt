@@ -1,4 +1,4 @@
-use Rattle.std.proofs.Common.{◌≡◌, ℕ, List, [], ◌∷◌, ◌++◌, sym, refl, ap, ◌∙◌, arith}
+use Rattle.std.proofs.Common.{[], ◌∷◌, sym, refl, ap, ◌∙◌, arith}
 use Rattle.memory.specs.Numbers.{verdict_number}
 use Rattle.wire.specs.Bytes.{digits}
 use Rattle.wire.specs.Written.{over}
@@ -9,5 +9,5 @@ use Rattle.wire.proofs.writing.slip_content.Goals as goal
 pub returns : goal.returns
 returns c =
     let one = c.put.ensures ∙ ap (λ v. over _ 0 (v ∷ [])) c.verdict_number.ensures in
-    let two = over_next _ _ _ (verdict_number c.args.verdict ∷ []) (digits 8 c.args.steps) 1 one refl (omega arith) (c.put-2.ensures ∙ ap (over _ 1) (c.to-be-bytes.ensures ∙ sym (digits_8 c.args.steps))) in
+    let two = over_next _ _ _ (verdict_number c.args.verdict ∷ []) (digits 8 c.args.steps) 1 one refl (omega arith) (c.put-2.ensures ∙ ap (over _ 1) (c.to_be_bytes.ensures ∙ sym (digits_8 c.args.steps))) in
     two ∙ over_all _ _ refl

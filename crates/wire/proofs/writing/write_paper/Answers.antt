@@ -1,19 +1,18 @@
-use Rattle.std.proofs.Common.{◌≡◌, ℕ, ◌+◌, List, [], ◌∷◌, length, sym, refl, ap, ◌∙◌, arith, length-append}
-use Rattle.std.proofs.lemmas.Bool.{leb-true, leb-false}
+use Rattle.std.proofs.Common.{◌≡◌, ℕ, ◌+◌, List, [], ◌∷◌, length, refl, ap, ◌∙◌, arith, length-append}
 use Rattle.wire.specs.Bytes.{field}
 use Rattle.wire.specs.Written.{over, paper_number, paper_body}
 use Rattle.wire.proofs.Over.{written_three}
 use Rattle.wire.proofs.writing.write_paper.Goals as goal
 
-pub returns-then-not-fits : goal.returns-then-not-fits
-returns-then-not-fits c = (omega (arith, leb-false _ _ (sym c.if-not-fits.ensures), length-append (paper_body c.args.paper) (field 31 [])), refl)
+pub returns-then-out-body_len : goal.returns-then-out-body_len
+returns-then-out-body_len c = (omega (arith, length-append (paper_body c.args.paper) (field 31 [])), refl)
 
 pub returns : goal.returns
 returns c =
     let out : List ℕ = c.args.out.now in
     let h = c.args.head in
-    let first = c.put-field-body.ensures.bytes ∙ ap (λ v. over out 0 (field 16 (v ∷ h.model ∷ h.clock ∷ h.records ∷ []))) c.number.ensures in
-    let body : c.put-field-body.result ≡ 7 = c.put-field-body.ensures.end in
-    let second = c.put-body-end.ensures.bytes ∙ ap (λ k. over c.put-field-body.new.out k (paper_body c.args.paper)) body in
-    let end : 7 + length (paper_body c.args.paper) ≡ c.put-body-end.result = omega (arith, c.put-body-end.ensures.end) in
-    written_three out _ _ _ (field 16 (paper_number c.args.paper ∷ h.model ∷ h.clock ∷ h.records ∷ [])) (paper_body c.args.paper) (field 31 []) 7 _ _ first refl second end c.put-field.ensures.bytes (omega arith) (omega (arith, leb-true _ _ (sym c.if-not-fits.ensures)))
+    let first = c.put_field-body.ensures.bytes ∙ ap (λ v. over out 0 (field 16 (v ∷ h.model ∷ h.clock ∷ h.records ∷ []))) c.number.ensures in
+    let body : c.put_field-body.result ≡ 7 = c.put_field-body.ensures.end in
+    let second = c.put_body-end.ensures.bytes ∙ ap (λ k. over c.put_field-body.new.out k (paper_body c.args.paper)) body in
+    let end : 7 + length (paper_body c.args.paper) ≡ c.put_body-end.result = omega (arith, c.put_body-end.ensures.end) in
+    written_three out _ _ _ (field 16 (paper_number c.args.paper ∷ h.model ∷ h.clock ∷ h.records ∷ [])) (paper_body c.args.paper) (field 31 []) 7 _ _ first refl second end c.put_field.ensures.bytes (omega arith) (omega arith)

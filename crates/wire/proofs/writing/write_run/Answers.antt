@@ -5,10 +5,10 @@ use Rattle.wire.specs.Written.{over}
 use Rattle.wire.proofs.Over.{records_long, written_three}
 use Rattle.wire.proofs.writing.write_run.Goals as goal
 
-pub returns-then-not-run-fits : goal.returns-then-not-run-fits
-returns-then-not-run-fits c =
+pub returns-then-not-run_fits : goal.returns-then-not-run_fits
+returns-then-not-run_fits c =
     let rs = c.args.records.now in
-    let few = leb-false _ _ (sym c.if-not-run-fits.ensures) in
+    let few = leb-false _ _ (sym c.if-not-run_fits.ensures) in
     (omega (arith, few, length-append (all_of record_field rs) (field 3 []), records_long rs), refl)
 
 pub returns : goal.returns
@@ -16,7 +16,7 @@ returns c =
     let out : List ℕ = c.args.out.now in
     let rs = c.args.records.now in
     let h = c.args.head in
-    let start : c.put-field-first.result ≡ 6 = c.put-field-first.ensures.end in
-    let second = c.put-records-end.ensures.bytes ∙ ap (λ k. over c.put-field-first.new.out k (all_of record_field rs)) start in
-    let end : 6 + length (all_of record_field rs) ≡ c.put-records-end.result = omega (arith, c.put-records-end.ensures.end, records_long rs) in
-    written_three out _ _ _ (field 1 (h.processors ∷ h.model ∷ h.clock ∷ [])) (all_of record_field rs) (field 3 []) 6 _ _ c.put-field-first.ensures.bytes refl second end c.put-field.ensures.bytes (omega arith) (omega (arith, records_long rs, leb-true _ _ (sym c.if-not-run-fits.ensures)))
+    let start : c.put_field-first.result ≡ 6 = c.put_field-first.ensures.end in
+    let second = c.put_records-end.ensures.bytes ∙ ap (λ k. over c.put_field-first.new.out k (all_of record_field rs)) start in
+    let end : 6 + length (all_of record_field rs) ≡ c.put_records-end.result = omega (arith, c.put_records-end.ensures.end, records_long rs) in
+    written_three out _ _ _ (field 1 (h.processors ∷ h.model ∷ h.clock ∷ [])) (all_of record_field rs) (field 3 []) 6 _ _ c.put_field-first.ensures.bytes refl second end c.put_field.ensures.bytes (omega arith) (omega (arith, records_long rs, leb-true _ _ (sym c.if-not-run_fits.ensures)))

@@ -1,4 +1,4 @@
-use Rattle.std.proofs.Common.{◌≡◌, ℕ, List, length, ap, ◌∙◌, arith}
+use Rattle.std.proofs.Common.{ℕ, List, length, ap, ◌∙◌, arith}
 use Rattle.wire.specs.Bytes.{field}
 use Rattle.wire.specs.Written.{over}
 use Rattle.wire.proofs.Over.{written_front}
@@ -7,5 +7,5 @@ use Rattle.wire.proofs.writing.write_slip.Goals as goal
 pub returns : goal.returns
 returns c =
     let out : List ℕ = c.args.out.now in
-    let long = ap length c.slip-content.ensures in
-    written_front out _ _ _ (omega arith) (omega arith) (c.put-field.ensures.bytes ∙ ap (λ l. over out 0 (field 29 l)) c.slip-content.ensures)
+    let long = ap length c.slip_content.ensures in
+    written_front out _ _ _ (omega arith) (omega arith) (c.put_field.ensures.bytes ∙ ap (λ l. over out 0 (field 29 l)) c.slip_content.ensures)

@@ -17,11 +17,11 @@ returns-in-Err g c =
     let s : State = view self in
     let x : Refusal = c.in-Err.refusal in
     let j : judgement self.processors (vec_items self.records) c.args.e ≡ Err x = unlawful _ s x c.in-Err.ensures.answer in
-    let out : admitting s c.args.e ≡ refused s x = ap (λ o. admit_if o s c.args.e) (sym c.in-default.ensures) ∙ ap (λ j. admit_by j s) j in
-    let same : view c.admit-lawful.new.self ≡ s = c.admit-lawful.ensures.state ∙ ap (λ j. (admit_by j s).state) j in
+    let out : admitting s c.args.e ≡ refused s x = ap (λ o. admit_if o s c.args.e) (sym c.in_default.ensures) ∙ ap (λ j. admit_by j s) j in
+    let same : view c.admit_lawful.new.self ≡ s = c.admit_lawful.ensures.state ∙ ap (λ j. (admit_by j s).state) j in
     record {
       answer = ap Err (c.fault-in-Err.ensures ∙ ap (λ t. case_fault t x) same) ∙ sym (ap (λ o. o.answer) out);
       state = same ∙ sym (ap (λ o. o.state) out);
-      model = c.admit-lawful.ensures.model;
-      clock = c.admit-lawful.ensures.clock;
+      model = c.admit_lawful.ensures.model;
+      clock = c.admit_lawful.ensures.clock;
     }

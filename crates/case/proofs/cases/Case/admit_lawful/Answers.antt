@@ -6,29 +6,22 @@ use Rattle.inference.specs.Views.{lines_of}
 use Rattle.inference.proofs.Pairs.{paired_more}
 use Rattle.case.proofs.cases.Case.admit_lawful.Goals as goal
 
-pub invariant-of-self : goal.invariant-of-self
-invariant-of-self g c =
+pub invariant_of-self : goal.invariant_of-self
+invariant_of-self g c =
     let self = c.args.self.now in
     let e = c.args.e in
     let p : ℕ = self.processors in
     let rs : List Record = vec_items self.records in
-    let r : Record = c.in-ok-record.record in
-    let j : judgement p rs e ≡ Ok r = ap (λ xs. judgement p xs e) (sym c.as-slice.ensures.value) ∙ sym c.in-ok-record.ensures in
-    let items = sym c.push-reserved.ensures.items in
+    let r : Record = c.in_ok-record.record in
+    let j : judgement p rs e ≡ Ok r = ap (λ xs. judgement p xs e) (sym c.as_slice.ensures.value) ∙ sym c.in_ok-record.ensures in
+    let items = sym c.push_reserved.ensures.items in
     let address : e.address < 4294967296 = search rules in
-    let value : e.value < 18446744073709551616 = search rules in (
-      search rules,
-      (
-        search rules,
-        (
-          self.opened,
-          (
-            subst (λ xs. admits p [] xs ≡ true) items (admits_more p rs e r self.lawful j),
-            (
-              subst (λ xs. sized xs ≡ true) items (sized_more p rs e r self.sized j address value),
-              (paired_more (vec_len self.records) (vec_len c.push-reserved.new.self) (omega (arith, c.push-reserved.ensures.len)) (lines_of self.lines) self.pairs, tt),
-            ),
-          ),
-        ),
-      ),
-    )
+    let value : e.value < 18446744073709551616 = search rules in
+    record {
+      room = search rules;
+      few = search rules;
+      opened = self.opened;
+      lawful = subst (λ xs. admits p [] xs ≡ true) items (admits_more p rs e r self.lawful j);
+      sized = subst (λ xs. sized xs ≡ true) items (sized_more p rs e r self.sized j address value);
+      pairs = paired_more (vec_len self.records) (vec_len c.push_reserved.new.self) (omega (arith, c.push_reserved.ensures.len)) (lines_of self.lines) self.pairs;
+    }

@@ -1,4 +1,4 @@
-use Rattle.memory.specs.Runs.{Run, setting, run_of}
+use Rattle.memory.specs.Runs.{setting, run_of}
 use Rattle.inference.specs.Views.{lines_of}
 use Rattle.inference.proofs.Onward.{reached_none, none_follows, opposed_listed, reached_more, all_listed}
 use Rattle.inference.proofs.lines.Lines.list_up_to.Goals as goal
@@ -6,9 +6,9 @@ use Rattle.inference.proofs.lines.Lines.list_up_to.Goals as goal
 pub loop-count-init : goal.loop-count-init
 loop-count-init g c = reached_none (run_of (setting (g.M.Model.orders c.args.model.now) (g.C.Clock.earlier c.args.clock.now) g.M.Model.mark g.C.Clock.mark) c.args.records.now) c.args.k (lines_of c.args.self.now)
 
-pub returns-in-default : goal.returns-in-default
-returns-in-default g c =
-    none_follows (run_of (setting (g.M.Model.orders c.args.model.now) (g.C.Clock.earlier c.args.clock.now) g.M.Model.mark g.C.Clock.mark) c.args.records.now) c.args.k (lines_of c.args.self.now) c.loop-count.count (lines_of c.loop-count.self) c.loop-count.invariant c.loop-count-test.true (lines_of c.list_next.new.self) c.in-default.ensures
+pub returns-in_default : goal.returns-in_default
+returns-in_default g c =
+    none_follows (run_of (setting (g.M.Model.orders c.args.model.now) (g.C.Clock.earlier c.args.clock.now) g.M.Model.mark g.C.Clock.mark) c.args.records.now) c.args.k (lines_of c.args.self.now) c.loop-count.count (lines_of c.loop-count.self) c.loop-count.invariant c.loop-count-test.true (lines_of c.list_next.new.self) c.in_default.ensures
 
 pub returns-then-opposed : goal.returns-then-opposed
 returns-then-opposed g c =

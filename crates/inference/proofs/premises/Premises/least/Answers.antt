@@ -17,7 +17,7 @@ pub loop-i-preserved : goal.loop-i-preserved
 loop-i-preserved g c =
     let self = c.args.self.now in
     let f : ℕ → Option Line = λ k. least_of_rule (run_in g.M.Model.orders g.C.Clock.earlier g.M.Model.mark g.C.Clock.mark self) (lines_in self) (rule_at k) in
-    seek_more f c.loop-i.i c.loop-i.invariant (sym c.in-default.ensures)
+    seek_more f c.loop-i.i c.loop-i.invariant (sym c.in_default.ensures)
 
 pub returns : goal.returns
 unfolding next

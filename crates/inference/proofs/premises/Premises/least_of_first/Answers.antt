@@ -13,4 +13,4 @@ returns-in-Some g c =
 pub loop-i-preserved : goal.loop-i-preserved
 loop-i-preserved g c =
     let self = c.args.self.now in
-    seek_more (least_of_pair (run_in g.M.Model.orders g.C.Clock.earlier g.M.Model.mark g.C.Clock.mark self) (lines_in self) c.args.rule c.args.first) c.loop-i.i c.loop-i.invariant (sym c.in-default.ensures)
+    seek_more (least_of_pair (run_in g.M.Model.orders g.C.Clock.earlier g.M.Model.mark g.C.Clock.mark self) (lines_in self) c.args.rule c.args.first) c.loop-i.i c.loop-i.invariant (sym c.in_default.ensures)

@@ -3,17 +3,17 @@ use Rattle.inference.specs.Views.{lines_in, run_in}
 use Rattle.inference.proofs.Thirds.{only_zero, only_records, not_new}
 use Rattle.inference.proofs.premises.Premises.least_of_pair.Goals as goal
 
-pub returns-then-not-has-third : goal.returns-then-not-has-third
-returns-then-not-has-third g c =
+pub returns-then-not-has_third : goal.returns-then-not-has_third
+returns-then-not-has_third g c =
     let self = c.args.self.now in
-    c.if_fits.ensures ∙ only_zero (run_in g.M.Model.orders g.C.Clock.earlier g.M.Model.mark g.C.Clock.mark self) (lines_in self) c.args.rule c.args.first c.args.second (sym c.if-not-has-third.ensures)
+    c.if_fits.ensures ∙ only_zero (run_in g.M.Model.orders g.C.Clock.earlier g.M.Model.mark g.C.Clock.mark self) (lines_in self) c.args.rule c.args.first c.args.second (sym c.if-not-has_third.ensures)
 
-pub returns-then-is-listed : goal.returns-then-is-listed
-returns-then-is-listed g c =
+pub returns-then-is_listed : goal.returns-then-is_listed
+returns-then-is_listed g c =
     let self = c.args.self.now in
-    sym (not_new (run_in g.M.Model.orders g.C.Clock.earlier g.M.Model.mark g.C.Clock.mark self) (lines_in self) c.args.rule c.args.first c.args.second (sym c.if-is-listed.ensures))
+    sym (not_new (run_in g.M.Model.orders g.C.Clock.earlier g.M.Model.mark g.C.Clock.mark self) (lines_in self) c.args.rule c.args.first c.args.second (sym c.if-is_listed.ensures))
 
 pub returns : goal.returns
 returns g c =
     let self = c.args.self.now in
-    c.least-third.ensures ∙ only_records (run_in g.M.Model.orders g.C.Clock.earlier g.M.Model.mark g.C.Clock.mark self) (lines_in self) c.args.rule c.args.first c.args.second (sym c.if-not-has-third.ensures)
+    c.least_third.ensures ∙ only_records (run_in g.M.Model.orders g.C.Clock.earlier g.M.Model.mark g.C.Clock.mark self) (lines_in self) c.args.rule c.args.first c.args.second (sym c.if-not-has_third.ensures)

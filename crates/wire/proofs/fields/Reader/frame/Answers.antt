@@ -1,4 +1,4 @@
-use Rattle.std.proofs.Common.{◌≡◌, ℕ, ◌+◌, ◌-◌, ◌<◌, ◌≤◌, List, length, get_or, take, drop, refl, ap, arith, rules}
+use Rattle.std.proofs.Common.{◌≡◌, ℕ, ◌+◌, ◌-◌, ◌<◌, List, get_or, take, drop, refl, ap, arith, rules}
 use Rattle.wire.proofs.Walk.{size_at, framed, unframed}
 use Rattle.wire.proofs.fields.Reader.frame.Goals as goal
 

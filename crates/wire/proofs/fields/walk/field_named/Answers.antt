@@ -6,5 +6,5 @@ use Rattle.wire.proofs.fields.walk.field_named.Goals as goal
 -- an end has no content
 pub returns-in-Run-eq3 : goal.returns-in-Run-eq3
 returns-in-Run-eq3 c =
-    let none : ◌≡◌ {A = List ℕ} [] c.args.part.content.now = sym (nil_from_length _ (eqb-true _ 0 (sym c.if-is-empty.ensures))) in
+    let none : ◌≡◌ {A = List ℕ} [] c.args.part.content.now = sym (nil_from_length _ (eqb-true _ 0 (sym c.if-is_empty.ensures))) in
     search rules

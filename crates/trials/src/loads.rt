@@ -3,6 +3,7 @@ use crate::tools::{EMPTY, MESSAGE, ORPHAN, ScCase, Told, admitted, entry, loaded
 use loading::load;
 use memory::clocks::GlobalClock;
 use memory::models::Sc;
+use std::fmt::Display;
 use std::process::Abort;
 use std::test::Fail;
 use writing::write_run;
@@ -16,9 +17,21 @@ fn load_then_admit(
     told: Told,
     then: Told,
 ) -> Result<(), Fail> {
-    assert_eq!(rt; loaded(load(case, &ORPHAN)), (0, 0, 203));
-    assert_eq!(rt; loaded(load(case, bytes)), told);
-    assert_eq!(rt; admitted(case.admit(entry(0, 1, 16, 0))), then);
+    load_noted(rt, case, bytes, told, then, "")
+}
+
+// The same, with what a failed assertion tells of the bytes.
+fn load_noted(
+    rt: &impl Abort,
+    case: &mut ScCase,
+    bytes: &[u8],
+    told: Told,
+    then: Told,
+    note: impl Display + Drop,
+) -> Result<(), Fail> {
+    assert_eq!(rt; loaded(load(case, &ORPHAN)), (0, 0, 203), "{note}");
+    assert_eq!(rt; loaded(load(case, bytes)), told, "{note}");
+    assert_eq!(rt; admitted(case.admit(entry(0, 1, 16, 0))), then, "{note}");
     Ok(())
 }
 
@@ -50,14 +63,15 @@ fn a_run_cut_at_any_length_is_refused_at_the_field_that_is_cut(
 ) -> Result<(), Fail> {
     let mut case = ScCase::new(rt.alloc(), Sc, GlobalClock)?;
     for n in 0..141 {
-        load_then_admit(
+        let note = format_args!("cut to {n}");
+        load_noted(
             &rt,
             &mut case,
             &MESSAGE[0..n],
             (1, 1, cut_field(n)),
             after_cut(n),
-        )
-        .note(format_args!("cut to {n}"))?;
+            note,
+        )?;
     }
     load_then_admit(&rt, &mut case, &MESSAGE, (0, 0, 0), (4, 2, 5))
 }
@@ -137,7 +151,7 @@ fn load_changed(rt: &impl Abort, case: &mut ScCase, changes: &[Change]) -> Resul
         if at < bytes.len() {
             bytes[at] = byte;
         }
-        load_then_admit(rt, case, &bytes, told, then).note(format_args!("{byte} at {at}"))?;
+        load_noted(rt, case, &bytes, told, then, format_args!("{byte} at {at}"))?;
     }
     Ok(())
 }
