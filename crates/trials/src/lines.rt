@@ -1,4 +1,5 @@
 // Which lines are listed, in which order, and which oppose each other.
+use crate::writing::{OLD, is_old};
 use inference::lines::{Lines, Listed};
 use inference::premises::Premises;
 use memory::clocks::{Clock, GlobalClock, NoClock};
@@ -96,10 +97,10 @@ fn the_message_run_has_six_lines_and_their_paper_is_these_bytes(
         clock: 1,
         records: 4,
     };
-    let mut out = [0xaa; 60];
+    let mut out = [OLD; 60];
     let paper = Paper::Opposed(lines.as_slice());
     assert!(rt; write_paper(&mut out[0..51], head, paper).is_err());
-    assert_eq!(rt; &out[..], &[0xaa; 60][..]);
+    is_old(&rt, &out);
     assert_eq!(rt; write_paper(&mut out, head, paper).ok(), Some(52));
     assert_eq!(rt; &out[0..7], &[0x10, 0, 4, 2, 1, 1, 4][..]);
     assert_eq!(rt;
@@ -115,7 +116,7 @@ fn the_message_run_has_six_lines_and_their_paper_is_these_bytes(
         &[0x11, 0, 4, 7, 1, 3, 2, 0x11, 0, 4, 7, 1, 4, 3][..]
     );
     assert_eq!(rt; &out[49..52], &[0x1f, 0, 0][..]);
-    assert_eq!(rt; &out[52..60], &[0xaa; 8][..]);
+    is_old(&rt, &out[52..60]);
     Ok(())
 }
 

@@ -9,9 +9,9 @@ use std::process::Abort;
 use std::test::Fail;
 
 // What the lent bytes hold before.
-const OLD: u8 = 0xaa;
+pub const OLD: u8 = 0xaa;
 
-fn is_old(rt: &impl Abort, bytes: &[u8]) {
+pub fn is_old(rt: &impl Abort, bytes: &[u8]) {
     for b in bytes {
         assert_eq!(rt; *b, OLD);
     }
