@@ -25,7 +25,7 @@ const OUTPUT_ROOM: usize = 26;
 fn write_verdict<M: Model, C: Clock>(case: &Case<M, C>, room: &mut [u8]) -> usize
     requires { length room.old ≡ 26 }
     ensures within { result ≤ 26 }
-    ensures bytes { take result room.new ≡ slip_in (view case.now) ++ or_none (paper_in M.Model.mark C.Clock.mark (view case.now)) }
+    ensures bytes { take result room.new ≡ slip_in (view case.now) ++ or_none (paper_in M.Model.MARK C.Clock.MARK (view case.now)) }
 {
     let Ok(slip) = case.write_slip(room) else {
         unreachable()
@@ -54,8 +54,8 @@ pub fn check<M: Model + Drop, C: Clock + Drop>(
     clock: C,
     bytes: &[u8],
 ) -> Result<Vec<u8>, AllocError>
-    ensures bytes { IfOk result (λ v. v.items ≡ output M.Model.mark C.Clock.mark bytes.now) }
-    ensures claims { is_ok result ≡ true → OutputClaims (setting (M.Model.orders model) (C.Clock.earlier clock) M.Model.mark C.Clock.mark) bytes.now }
+    ensures bytes { IfOk result (λ v. v.items ≡ output M.Model.MARK C.Clock.MARK bytes.now) }
+    ensures claims { is_ok result ≡ true → OutputClaims (setting (M.Model.orders model) (C.Clock.earlier clock) M.Model.MARK C.Clock.MARK) bytes.now }
 {
     let mut case = Case::new(heap, model, clock)?;
     let mut room = [0; OUTPUT_ROOM];

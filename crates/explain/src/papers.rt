@@ -32,7 +32,7 @@ pub fn tell_writing<M: Model, C: Clock>(rt: &HostRuntime, case: &Case<M, C>) -> 
 }
 
 fn tell_unwritten(rt: &HostRuntime, what: &str, fault: Fault) -> io::Result<()> {
-    let number = fault.refusal.number();
+    let number = u8::from(fault.refusal);
     let word = refusal_word(fault.refusal);
     let meaning = refusal_meaning(fault.refusal);
     println!(rt; "  {what}: none. Writing it was refused: {number}, {word}. {meaning}")

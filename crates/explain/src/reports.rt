@@ -47,10 +47,10 @@ fn tell_setting(rt: &HostRuntime, model: u8, clock: u8) -> io::Result<()> {
 
 // Loads the bytes into a new case of the model, and tells all that comes of it; a run is refused exactly where loading refuses it.
 pub fn tell<M: Model + Drop>(rt: &HostRuntime, model: M, bytes: &[u8]) -> anyhow::Result<Outcome>
-    ensures { IfOk result (λ o. o ≡ outcome_of (loading M.Model.mark 1 (begun 1) bytes.now).answer) }
+    ensures { IfOk result (λ o. o ≡ outcome_of (loading M.Model.MARK 1 (begun 1) bytes.now).answer) }
 {
     let mut case = Case::new(rt.alloc(), model, GlobalClock)?;
-    tell_setting(rt, M::own_mark(), GlobalClock::own_mark())?;
+    tell_setting(rt, M::MARK, GlobalClock::MARK)?;
     match case.load(bytes) {
         Ok(_) => {
             tell_run(rt, &case)?;
@@ -67,7 +67,7 @@ pub fn tell<M: Model + Drop>(rt: &HostRuntime, model: M, bytes: &[u8]) -> anyhow
 
 // The head and the admitted records.
 fn tell_run<M: Model, C: Clock>(rt: &HostRuntime, case: &Case<M, C>) -> io::Result<()> {
-    tell_head(rt, case.processors(), M::own_mark(), C::own_mark())?;
+    tell_head(rt, case.processors(), M::MARK, C::MARK)?;
     tell_records(rt, case.records())
 }
 
@@ -122,9 +122,9 @@ fn tell_refused<M: Model, C: Clock>(
 }
 
 fn tell_fault(rt: &HostRuntime, fault: Fault) -> io::Result<()> {
-    let number = fault.refusal.number();
+    let number = u8::from(fault.refusal);
     let word = refusal_word(fault.refusal);
-    let layer = fault.layer.number();
+    let layer = u8::from(fault.layer);
     let layer_name = layer_words(fault.layer);
     let place = fault.place;
     let meaning = refusal_meaning(fault.refusal);

@@ -3,7 +3,7 @@ use Rattle.std.specs.Prelude.{ℕ, zero, suc, Bool, true, false, not, ◌&&◌, 
 use Rattle.memory.specs.declared.lines.Line.{Line}
 use Rattle.memory.specs.declared.lines.Rule.{Rule}
 use Rattle.memory.specs.declared.lines.Rule.TheVariants.{Clock, Model, ReadsFrom, InitialRead, Coherence, FromRead, Transitive}
-use Rattle.memory.specs.Lists.{any}
+use Rattle.std.specs.List.{list_any}
 use Rattle.memory.specs.Runs.{Run}
 
 -- a is one of 1 to n
@@ -24,7 +24,7 @@ has_pair a b l = l.first == a && l.second == b
 
 -- the pair is listed
 abbrev pub listed : List Line → ℕ → ℕ → Bool
-listed ls a b = any (has_pair a b) ls
+listed ls a b = list_any (has_pair a b) ls
 
 -- x is a load of a value other than 0, and w the store with its address and value: `reads_from`, by numbers
 abbrev pub reads : Run → ℕ → ℕ → Bool

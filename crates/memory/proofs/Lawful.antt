@@ -10,7 +10,7 @@ use Rattle.memory.specs.Admission.{logged, blank_entry, last_enter, same_store, 
 use Rattle.memory.specs.Kinds.{is_store, is_fence}
 use Rattle.memory.specs.Lawful.{Lawful, nth}
 use Rattle.memory.specs.Limits.{most_records, reading_limit}
-use Rattle.memory.specs.Lists.{any}
+use Rattle.std.specs.List.{list_any}
 use Rattle.memory.specs.Runs.{blank}
 use Rattle.memory.proofs.Admitted.{Judged, judged, admits_again}
 use Rattle.memory.proofs.Loops.{none_at}
@@ -83,7 +83,7 @@ module _ (rs : List Record) (r : Record) where
     -- a store that equals the new one is a twin
     no_twin : (i : ℕ) → i < length rs → is_store (nth rs i).kind ≡ true → is_store r.kind ≡ true → (nth rs i).address ≡ r.address → (nth rs i).value ≡ r.value → ⊥
     no_twin i lt si sr a v =
-        let none : any (same_store (logged r)) rs ≡ false = sym (ap (λ b. b && any (same_store (logged r)) rs) sr) ∙ single in
+        let none : list_any (same_store (logged r)) rs ≡ false = sym (ap (λ b. b && list_any (same_store (logged r)) rs) sr) ∙ single in
         both_ways _ (none_at (same_store (logged r)) rs i blank none lt) (and_from (is_store (nth rs i).kind) _ si (and_from (eqb (nth rs i).address r.address) _ (eq-eqb _ _ a) (eq-eqb _ _ v)))
 
     last_old : (i : ℕ) → i < length rs → (nth rs i).enter ≤ last_enter more (nth rs i).processor

@@ -5,7 +5,7 @@ use Rattle.std.proofs.ByRecursion.{All-take}
 use Rattle.std.proofs.lemmas.Bool.{and_parts, and_from, eq-eqb, not-true, both_ways, eqb-false}
 use Rattle.memory.specs.declared.records.Record.{Record}
 use Rattle.memory.specs.Kinds.{is_load, is_store}
-use Rattle.memory.specs.Lists.{any}
+use Rattle.std.specs.List.{list_any}
 use Rattle.memory.specs.Runs.{Setting, Run, Known, run_of, blank, at}
 use Rattle.memory.specs.Legal.{writes, memory, Legal, NoOrder}
 use Rattle.memory.specs.Reading.{reads_from, orphan}
@@ -40,7 +40,7 @@ orphan_none S rs l some within e order h =
     let x = at rs l in
     let p = and_parts (is_load x.kind) _ e in
     let q = and_parts (not (eqb x.value 0)) _ p.1 in
-    let unwritten : any (reads_from x) rs ≡ false = not-true _ q.1 in
+    let unwritten : list_any (reads_from x) rs ≡ false = not-true _ q.1 in
     let here = present R order h l (record { some = some; within = within }) in
     let i : ℕ = here.0 in
     let is : get_or order i 0 ≡ l = here.2 in

@@ -1,13 +1,13 @@
 -- Every record stands in a legal order: n different numbers of 1 to n are all of them. Assumes nothing.
 use Rattle.std.proofs.Common.{◌≡◌, ℕ, zero, suc, ◌+◌, ◌<◌, ◌≤◌, Bool, true, false, cond, not, eqb, List, [], ◌∷◌, length, get_or, sym, refl, ap, subst, ⊎_elim, zero-le, arith}
 use Rattle.std.proofs.lemmas.Bool.{eq-eqb, eqb-true, or_parts, or_cases, or_left, not-true, not_from_true, not_from_false, cases_Bool, cases_eq, both_ways, true≢false}
-use Rattle.memory.specs.Lists.{any}
+use Rattle.std.specs.List.{list_any}
 use Rattle.memory.specs.Runs.{Run, Known}
 use Rattle.memory.specs.Legal.{Legal}
 
 -- a is among xs
 abbrev pub has : List ℕ → ℕ → Bool
-has xs a = any (λ x. eqb x a) xs
+has xs a = list_any (λ x. eqb x a) xs
 
 pub has_index : (xs : List ℕ) (a : ℕ) → has xs a ≡ true → (j : ℕ) × (j < length xs) × (get_or xs j 0 ≡ a)
 has_index [] a h = absurd (both_ways false refl h)

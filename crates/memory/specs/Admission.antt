@@ -6,7 +6,7 @@ use Rattle.memory.specs.declared.records.Record.{Record}
 use Rattle.memory.specs.declared.refusals.Refusal.{Refusal}
 use Rattle.memory.specs.declared.refusals.Refusal.TheVariants as refuse
 use Rattle.memory.specs.Kinds.{kind_at, kind_number, is_store, is_fence}
-use Rattle.memory.specs.Lists.{any}
+use Rattle.std.specs.List.{list_any}
 use Rattle.memory.specs.Limits.{most_records, most_processors, reading_limit}
 
 -- a run may have p processors
@@ -51,7 +51,7 @@ same_store e r = is_store r.kind && (r.address == e.address && r.value == e.valu
 
 -- a store equal in address and value to an admitted one
 abbrev pub twin : Kind → List Record → Entry → Bool
-twin k rs e = is_store k && any (same_store e) rs
+twin k rs e = is_store k && list_any (same_store e) rs
 
 -- an entry of kind k, judged by what it holds
 abbrev pub judge_kind : Option Kind → List Record → Entry → Result Record Refusal

@@ -4,8 +4,8 @@ pub mod Kinds
 pub mod Lawful
 pub mod Legal
 pub mod Limits
-pub mod Lists
 pub mod Models
 pub mod Numbers
 pub mod Reading
 pub mod Runs
+pub mod Settings

@@ -2,7 +2,7 @@
 use Rattle.std.specs.Prelude.{◌≡◌, ℕ, zero, suc, ◌<◌, ◌≤◌, Bool, true, false, cond, not, ◌&&◌, List, length, Some, None, Option, ◌==◌}
 use Rattle.memory.specs.declared.records.Record.{Record}
 use Rattle.memory.specs.Kinds.{is_load, is_store}
-use Rattle.memory.specs.Lists.{any}
+use Rattle.std.specs.List.{list_any}
 use Rattle.memory.specs.Runs.{at}
 
 -- x is a load of a value other than 0, and w the store with its address and value
@@ -11,7 +11,7 @@ reads_from x w = is_load x.kind && (not (x.value == 0) && (is_store w.kind && (w
 
 -- x is a load of a value other than 0 that reads no store of rs
 abbrev pub unread : List Record → Record → Bool
-unread rs x = is_load x.kind && (not (x.value == 0) && not (any (reads_from x) rs))
+unread rs x = is_load x.kind && (not (x.value == 0) && not (list_any (reads_from x) rs))
 
 -- record l of the run is an orphan: it reads none of its stores
 abbrev pub orphan : List Record → ℕ → Bool

@@ -1,7 +1,7 @@
 // What is lawful at admission, judged in one place.
 ghost use Rattle.std.specs.Prelude.{◌≡◌, Some};
 ghost use Rattle.memory.specs.Admission.{judgement, judge_kind, blank_entry, last_enter, same_store};
-ghost use Rattle.memory.specs.Lists.{any};
+ghost use Rattle.std.specs.List.{list_any};
 
 use crate::kinds::Kind;
 use crate::limits::{MOST_RECORDS, READING_LIMIT};
@@ -23,13 +23,14 @@ fn is_blank(kind: Kind, e: Entry) -> bool
 fn last_enter(records: &[Record], processor: u8) -> u64
     ensures { result ≡ last_enter records.now processor }
 {
-    let mut last = 0;
-    for r in records {
-        if r.processor == processor {
-            last = r.enter;
-        }
-    }
-    last
+    records.iter().fold(
+        0,
+        |last, r| if r.processor == processor {
+            r.enter
+        } else {
+            last
+        },
+    )
 }
 
 fn is_same_store(r: Record, e: Entry) -> bool
@@ -39,14 +40,9 @@ fn is_same_store(r: Record, e: Entry) -> bool
 }
 
 fn has_twin(records: &[Record], e: Entry) -> bool
-    ensures { result ≡ any (same_store e) records.now }
+    ensures { result ≡ list_any (same_store e) records.now }
 {
-    for r in records {
-        if is_same_store(*r, e) {
-            return true;
-        }
-    }
-    false
+    records.iter().any(|r| is_same_store(*r, e))
 }
 
 // The record that an entry becomes in a run of so many processors after these records, or why it is refused.
@@ -59,9 +55,7 @@ pub fn judge(processors: u8, records: &[Record], e: Entry) -> Result<Record, Ref
     if e.processor >= processors {
         return Err(Refusal::Stranger);
     }
-    let Some(kind) = Kind::from_number(e.kind) else {
-        return Err(Refusal::Kind);
-    };
+    let kind = Kind::try_from(e.kind)?;
     judge_content(kind, records, e)
 }
 

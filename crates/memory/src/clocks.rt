@@ -7,13 +7,9 @@ ghost use Rattle.std.proofs.Common.{rules};
 pub trait Clock {
     const MARK: u8;
 
-    // MARK, as clauses name it
-    ghost mark: { ℕ };
+    ghost MARK: { ℕ };
 
     ghost earlier: { Self → ℕ → ℕ → ℕ → ℕ → Bool };
-
-    fn own_mark() -> u8
-        ensures { result ≡ mark };
 
     fn surely_earlier(&self, p: u8, s: u64, q: u8, t: u64) -> bool
         ensures { result ≡ earlier self.now p s q t };
@@ -29,15 +25,11 @@ pub struct GlobalClock;
 impl Clock for GlobalClock {
     const MARK: u8 = 1;
 
-    ghost mark = { 1 };
+    ghost MARK = { 1 };
 
     ghost earlier = { λ _. below };
 
     ghost forward = { Prim.search rules };
-
-    fn own_mark() -> u8 {
-        Self::MARK
-    }
 
     fn surely_earlier(&self, _p: u8, s: u64, _q: u8, t: u64) -> bool {
         s < t
@@ -51,15 +43,11 @@ pub struct NoClock;
 impl Clock for NoClock {
     const MARK: u8 = 3;
 
-    ghost mark = { 3 };
+    ghost MARK = { 3 };
 
     ghost earlier = { λ _. never };
 
     ghost forward = { Prim.search rules };
-
-    fn own_mark() -> u8 {
-        Self::MARK
-    }
 
     fn surely_earlier(&self, _p: u8, _s: u64, _q: u8, _t: u64) -> bool {
         false

@@ -1,61 +1,58 @@
 // The kinds of records.
-ghost use Rattle.std.specs.Prelude.{◌≡◌};
+ghost use Rattle.std.specs.Prelude.{◌≡◌, ok_or};
 ghost use Rattle.memory.specs.Kinds.{kind_number, kind_at, is_load, is_store, is_fence};
+ghost use Rattle.memory.specs.declared.refusals.Refusal.TheVariants as refuse;
 
-#[derive(Clone, Copy)]
+use crate::refusals::Refusal;
+
+// Each kind with its number.
+#[derive(Clone, Copy, Debug, PartialEq, Eq)]
 pub enum Kind {
-    Load,
-    Store,
-    Fence,
+    Load = 1,
+    Store = 2,
+    Fence = 3,
+}
+
+impl From<Kind> for u8 {
+    ghost from_gives = { λ kind r. r ≡ kind_number kind };
+
+    fn from(kind: Kind) -> u8 {
+        kind as u8
+    }
+}
+
+// The kind with a number; the refusal Kind where there is none.
+impl TryFrom<u8> for Kind {
+    type Error = Refusal;
+
+    ghost try_from_gives = { λ number r. r ≡ ok_or (kind_at number) refuse.Kind };
+
+    fn try_from(number: u8) -> Result<Kind, Refusal> {
+        match number {
+            1 => Ok(Kind::Load),
+            2 => Ok(Kind::Store),
+            3 => Ok(Kind::Fence),
+            _ => Err(Refusal::Kind),
+        }
+    }
 }
 
 impl Kind {
-    pub fn number(self) -> u8
-        ensures { result ≡ kind_number self }
-    {
-        match self {
-            Kind::Load => 1,
-            Kind::Store => 2,
-            Kind::Fence => 3,
-        }
-    }
-
-    // The kind with a number, if there is one.
-    pub fn from_number(number: u8) -> Option<Kind>
-        ensures { result ≡ kind_at number }
-    {
-        match number {
-            1 => Some(Kind::Load),
-            2 => Some(Kind::Store),
-            3 => Some(Kind::Fence),
-            _ => None,
-        }
-    }
-
     pub fn is_load(self) -> bool
         ensures { result ≡ is_load self }
     {
-        match self {
-            Kind::Load => true,
-            Kind::Store | Kind::Fence => false,
-        }
+        self == Kind::Load
     }
 
     pub fn is_store(self) -> bool
         ensures { result ≡ is_store self }
     {
-        match self {
-            Kind::Store => true,
-            Kind::Load | Kind::Fence => false,
-        }
+        self == Kind::Store
     }
 
     pub fn is_fence(self) -> bool
         ensures { result ≡ is_fence self }
     {
-        match self {
-            Kind::Fence => true,
-            Kind::Load | Kind::Store => false,
-        }
+        self == Kind::Fence
     }
 }

@@ -10,4 +10,5 @@ pub mod models;
 pub mod reading;
 pub mod records;
 pub mod refusals;
+pub mod settings;
 pub mod verdicts;

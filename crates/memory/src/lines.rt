@@ -1,23 +1,26 @@
 // Lines: what must come before what, and by which rule.
 ghost use Rattle.std.specs.Prelude.{◌≡◌};
+ghost use Rattle.std.specs.Result.{result_ok};
 ghost use Rattle.memory.specs.Numbers.{rule_number, rule_at};
 
-// Rules have the numbers 1 to this one.
-pub const LAST_RULE: u8 = 7;
-
-#[derive(Clone, Copy)]
+// Each rule with its number.
+#[derive(Clone, Copy, Debug, PartialEq, Eq)]
 pub enum Rule {
-    Clock,
-    Model,
-    ReadsFrom,
-    InitialRead,
-    Coherence,
-    FromRead,
-    Transitive,
+    Clock = 1,
+    Model = 2,
+    ReadsFrom = 3,
+    InitialRead = 4,
+    Coherence = 5,
+    FromRead = 6,
+    Transitive = 7,
 }
 
+// A number that no rule has.
+#[derive(Clone, Copy, Debug, PartialEq, Eq)]
+pub struct UnknownRule;
+
 // The record `first` comes before the record `second`. Only coherence and transitive lines name a third; at the others it is 0.
-#[derive(Clone, Copy)]
+#[derive(Clone, Copy, Debug, PartialEq, Eq)]
 pub struct Line {
     pub rule: Rule,
     pub first: u8,
@@ -26,33 +29,41 @@ pub struct Line {
 }
 
 impl Rule {
-    pub fn number(self) -> u8
-        ensures { result ≡ rule_number self }
-    {
-        match self {
-            Rule::Clock => 1,
-            Rule::Model => 2,
-            Rule::ReadsFrom => 3,
-            Rule::InitialRead => 4,
-            Rule::Coherence => 5,
-            Rule::FromRead => 6,
-            Rule::Transitive => 7,
-        }
-    }
+    // In the order of their numbers.
+    pub const ALL: [Rule; 7] = [
+        Rule::Clock,
+        Rule::Model,
+        Rule::ReadsFrom,
+        Rule::InitialRead,
+        Rule::Coherence,
+        Rule::FromRead,
+        Rule::Transitive,
+    ];
+}
 
-    // The rule with a number, if there is one.
-    pub fn from_number(number: u8) -> Option<Rule>
-        ensures { result ≡ rule_at number }
-    {
+impl From<Rule> for u8 {
+    ghost from_gives = { λ rule r. r ≡ rule_number rule };
+
+    fn from(rule: Rule) -> u8 {
+        rule as u8
+    }
+}
+
+impl TryFrom<u8> for Rule {
+    type Error = UnknownRule;
+
+    ghost try_from_gives = { λ number r. result_ok r ≡ rule_at number };
+
+    fn try_from(number: u8) -> Result<Rule, UnknownRule> {
         match number {
-            1 => Some(Rule::Clock),
-            2 => Some(Rule::Model),
-            3 => Some(Rule::ReadsFrom),
-            4 => Some(Rule::InitialRead),
-            5 => Some(Rule::Coherence),
-            6 => Some(Rule::FromRead),
-            7 => Some(Rule::Transitive),
-            _ => None,
+            1 => Ok(Rule::Clock),
+            2 => Ok(Rule::Model),
+            3 => Ok(Rule::ReadsFrom),
+            4 => Ok(Rule::InitialRead),
+            5 => Ok(Rule::Coherence),
+            6 => Ok(Rule::FromRead),
+            7 => Ok(Rule::Transitive),
+            _ => Err(UnknownRule),
         }
     }
 }

@@ -10,13 +10,9 @@ use crate::kinds::Kind;
 pub trait Model {
     const MARK: u8;
 
-    // MARK, as clauses name it
-    ghost mark: { ℕ };
+    ghost MARK: { ℕ };
 
     ghost orders: { Self → Kind → Kind → Bool → Bool };
-
-    fn own_mark() -> u8
-        ensures { result ≡ mark };
 
     fn must_precede(&self, earlier: Kind, later: Kind, same_address: bool) -> bool
         ensures { result ≡ orders self.now earlier later same_address };
@@ -29,13 +25,9 @@ pub struct Sc;
 impl Model for Sc {
     const MARK: u8 = 1;
 
-    ghost mark = { 1 };
+    ghost MARK = { 1 };
 
     ghost orders = { λ _. sc };
-
-    fn own_mark() -> u8 {
-        Self::MARK
-    }
 
     fn must_precede(&self, _earlier: Kind, _later: Kind, _same_address: bool) -> bool {
         true
@@ -49,13 +41,9 @@ pub struct Godson;
 impl Model for Godson {
     const MARK: u8 = 3;
 
-    ghost mark = { 3 };
+    ghost MARK = { 3 };
 
     ghost orders = { λ _. godson };
-
-    fn own_mark() -> u8 {
-        Self::MARK
-    }
 
     fn must_precede(&self, earlier: Kind, later: Kind, _same_address: bool) -> bool {
         match (earlier, later) {

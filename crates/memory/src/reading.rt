@@ -1,6 +1,6 @@
 // Which store a load reads, and orphans.
 ghost use Rattle.std.specs.Prelude.{◌≡◌, length};
-ghost use Rattle.memory.specs.Lists.{any};
+ghost use Rattle.std.specs.List.{list_any};
 ghost use Rattle.memory.specs.Reading.{reads_from, unread, orphan, first_orphan, Least};
 
 use crate::records::Record;
@@ -17,14 +17,9 @@ pub fn reads_from(load: Record, store: Record) -> bool
 }
 
 fn reads_any(load: Record, records: &[Record]) -> bool
-    ensures { result ≡ any (reads_from load) records.now }
+    ensures { result ≡ list_any (reads_from load) records.now }
 {
-    for store in records {
-        if reads_from(load, *store) {
-            return true;
-        }
-    }
-    false
+    records.iter().any(|store| reads_from(load, *store))
 }
 
 fn is_unread(load: Record, records: &[Record]) -> bool
@@ -38,10 +33,8 @@ pub fn smallest_orphan(records: &[Record]) -> Option<usize>
     ensures value { result ≡ first_orphan records.now }
     ensures least { Least (orphan records.now) (length records.now) result }
 {
-    for (i, r) in records.iter().enumerate() {
-        if is_unread(*r, records) {
-            return Some(i + 1);
-        }
-    }
-    None
+    records
+        .iter()
+        .position(|r| is_unread(*r, records))
+        .map(|index| index + 1)
 }

@@ -1,4 +1,7 @@
 // What is logged, and what is admitted.
+ghost use Rattle.std.specs.Prelude.{◌≡◌};
+ghost use Rattle.memory.specs.Runs.{shares};
+
 use crate::kinds::Kind;
 
 // An entry as it was logged: nothing of it is judged, and its kind is any number.
@@ -21,4 +24,13 @@ pub struct Record {
     pub value: u64,
     pub enter: u64,
     pub commit: u64,
+}
+
+impl Record {
+    // Both are of one address; a fence has none.
+    pub fn shares_address(self, other: Record) -> bool
+        ensures { result ≡ shares self other }
+    {
+        !self.kind.is_fence() && !other.kind.is_fence() && self.address == other.address
+    }
 }

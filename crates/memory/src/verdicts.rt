@@ -3,7 +3,7 @@ ghost use Rattle.std.specs.Prelude.{◌≡◌};
 ghost use Rattle.memory.specs.Numbers.{verdict_number};
 
 // A case that is not decided has no verdict, which has the number 0. An orphan is named by the number of its record.
-#[derive(Clone, Copy)]
+#[derive(Clone, Copy, Debug, PartialEq, Eq)]
 pub enum Verdict {
     Order,
     Opposed,

@@ -19,7 +19,7 @@ const ALL: u64 = u64::MAX;
 type Numbers = (u8, u8, u8, u8);
 
 fn numbers(line: Line) -> Numbers {
-    (line.rule.number(), line.first, line.second, line.third)
+    (u8::from(line.rule), line.first, line.second, line.third)
 }
 
 // The lines are these, in this order.
@@ -35,7 +35,7 @@ fn are_lines(rt: &impl Abort, lines: &Lines, rows: &[Numbers]) {
 fn listed(r: Result<Listed, Refusal>) -> Result<(u64, bool), u8> {
     match r {
         Ok(l) => Ok((l.count, l.opposed)),
-        Err(refusal) => Err(refusal.number()),
+        Err(refusal) => Err(u8::from(refusal)),
     }
 }
 
@@ -364,7 +364,7 @@ fn over_more_than_sixty_four_records_nothing_is_listed(rt: HostRuntime) -> Resul
     match Premises::new(&Sc, &GlobalClock, &records, &[]) {
         Ok(_) => Err(Fail::new("65 records are taken")),
         Err(refusal) => {
-            assert_eq!(rt; refusal.number(), 6);
+            assert_eq!(rt; u8::from(refusal), 6);
             Ok(())
         }
     }
@@ -451,7 +451,7 @@ const FOLLOWS: [(Numbers, bool); 43] = [
 fn follow_as_told(rt: &impl Abort, premises: &Premises<'_, Sc, GlobalClock>) -> Result<(), Fail> {
     for (i, row) in FOLLOWS.iter().enumerate() {
         let ((rule, first, second, third), want) = *row;
-        let rule = Rule::from_number(rule).ok_or("no rule")?;
+        let rule = Rule::try_from(rule).ok().ok_or("no rule")?;
         let line = Line {
             rule,
             first,

@@ -25,10 +25,6 @@ fn answer_rightly(rt: &impl Abort, same: bool) {
 #[test]
 fn sc_orders_every_pair_and_godson_no_load_but_behind_a_fence(rt: HostRuntime) {
     assert_eq!(rt; (<Sc as Model>::MARK, <Godson as Model>::MARK), (1, 3));
-    assert_eq!(rt;
-        (<Sc as Model>::own_mark(), <Godson as Model>::own_mark()),
-        (1, 3)
-    );
     answer_rightly(&rt, false);
     answer_rightly(&rt, true);
 }
@@ -37,13 +33,6 @@ fn sc_orders_every_pair_and_godson_no_load_but_behind_a_fence(rt: HostRuntime) {
 fn the_global_clock_compares_readings_and_the_other_says_nothing(rt: HostRuntime) {
     assert_eq!(rt;
         (<GlobalClock as Clock>::MARK, <NoClock as Clock>::MARK),
-        (1, 3)
-    );
-    assert_eq!(rt;
-        (
-            <GlobalClock as Clock>::own_mark(),
-            <NoClock as Clock>::own_mark()
-        ),
         (1, 3)
     );
     assert!(rt; !GlobalClock.surely_earlier(0, 10, 1, 10));

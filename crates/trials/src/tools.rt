@@ -35,7 +35,7 @@ pub const ORPHAN: [u8; 75] = [
 pub const EMPTY: [u8; 9] = [0x01, 0, 3, 2, 1, 1, 0x03, 0, 0];
 
 pub fn fault_told(f: Fault) -> Told {
-    (f.refusal.number(), f.layer.number(), f.place)
+    (u8::from(f.refusal), u8::from(f.layer), f.place)
 }
 
 // The number of the record, or the refusal.

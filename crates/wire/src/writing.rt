@@ -55,7 +55,7 @@ fn record_content(r: Record) -> [u8; 30]
     ensures { result ≡ entry_bytes (logged r) }
 {
     let mut content = [0; 30];
-    put(&mut content, 0, &[r.processor, r.kind.number()]);
+    put(&mut content, 0, &[r.processor, u8::from(r.kind)]);
     put(&mut content, 2, &r.address.to_be_bytes());
     put(&mut content, 6, &r.value.to_be_bytes());
     put(&mut content, 14, &r.enter.to_be_bytes());
@@ -121,7 +121,7 @@ pub fn write_slip(out: &mut [u8], verdict: Option<Verdict>, steps: u64) -> Resul
 fn line_content(line: Line) -> [u8; 4]
     ensures { result ≡ rule_number line.rule ∷ line.first ∷ line.second ∷ line.third ∷ [] }
 {
-    [line.rule.number(), line.first, line.second, line.third]
+    [u8::from(line.rule), line.first, line.second, line.third]
 }
 
 fn put_lines(out: &mut [u8], start: usize, lines: &[Line]) -> usize
@@ -195,7 +195,7 @@ fn notice_content(fault: Fault) -> [u8; 6]
     put(
         &mut content,
         0,
-        &[fault.refusal.number(), fault.layer.number()],
+        &[u8::from(fault.refusal), u8::from(fault.layer)],
     );
     put(
         &mut content,

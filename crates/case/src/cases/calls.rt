@@ -124,7 +124,7 @@ impl<M: Model, C: Clock> Case<M, C> {
     pub fn seal(&mut self) -> Result<Option<Verdict>, Fault>
         ensures answer { result ≡ (sealing (view self.old)).answer }
         ensures state { view self.new ≡ (sealing (view self.old)).state }
-        ensures claims { AnswerClaims (run_of (setting (M.Model.orders self.old.model) (C.Clock.earlier self.old.clock) M.Model.mark C.Clock.mark) (view self.old).records) result }
+        ensures claims { AnswerClaims (run_of (setting (M.Model.orders self.old.model) (C.Clock.earlier self.old.clock) M.Model.MARK C.Clock.MARK) (view self.old).records) result }
         ensures model { self.new.model ≡ self.old.model }
         ensures clock { self.new.clock ≡ self.old.clock }
     {

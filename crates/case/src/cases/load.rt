@@ -72,12 +72,12 @@ impl<M: Model, C: Clock> Case<M, C> {
 
     // The marks of the head, then its number of processors; the case then begins anew.
     fn begin(&mut self, head: RunHead) -> Result<(), RunFault>
-        ensures answer { result ≡ begun_as (head_refusal M.Model.mark C.Clock.mark head) }
-        ensures state { view self.new ≡ begun_state (head_refusal M.Model.mark C.Clock.mark head) head.processors (view self.old) }
+        ensures answer { result ≡ begun_as (head_refusal M.Model.MARK C.Clock.MARK head) }
+        ensures state { view self.new ≡ begun_state (head_refusal M.Model.MARK C.Clock.MARK head) head.processors (view self.old) }
         ensures model { self.new.model ≡ self.old.model }
         ensures clock { self.new.clock ≡ self.old.clock }
     {
-        if !(head.model == M::own_mark() && head.clock == C::own_mark()) {
+        if !(head.model == M::MARK && head.clock == C::MARK) {
             return Err(RunFault::Content {
                 refusal: Refusal::Foreign,
                 place: 0,
@@ -96,7 +96,7 @@ impl<M: Model, C: Clock> Case<M, C> {
     fn load_head(&mut self, reader: &mut Reader<'_>) -> Result<(), RunFault>
         requires text { reader.old.text ≡ Run }
         requires start { reader.old.at ≡ 0 }
-        ensures headed { Headed M.Model.mark C.Clock.mark (view self.old) reader.old.bytes.now (view self.new) reader.new.at result }
+        ensures headed { Headed M.Model.MARK C.Clock.MARK (view self.old) reader.old.bytes.now (view self.new) reader.new.at result }
         ensures bytes { reader.new.bytes ≡ reader.old.bytes }
         ensures text { reader.new.text ≡ reader.old.text }
         ensures model { self.new.model ≡ self.old.model }
@@ -113,10 +113,10 @@ impl<M: Model, C: Clock> Case<M, C> {
     // stay admitted and the case stays open, or it is as it was where the head failed. A run that loads is written as the same bytes,
     // and what its verdict claims is true.
     pub fn load(&mut self, bytes: &[u8]) -> Result<Option<Verdict>, RunFault>
-        ensures answer { result ≡ (loading M.Model.mark C.Clock.mark (view self.old) bytes.now).answer }
-        ensures state { view self.new ≡ (loading M.Model.mark C.Clock.mark (view self.old) bytes.now).state }
-        ensures kept { Kept M.Model.mark C.Clock.mark (view self.old) (view self.new) bytes.now result }
-        ensures claims { AnswerClaims (run_of (setting (M.Model.orders self.old.model) (C.Clock.earlier self.old.clock) M.Model.mark C.Clock.mark) (view self.new).records) result }
+        ensures answer { result ≡ (loading M.Model.MARK C.Clock.MARK (view self.old) bytes.now).answer }
+        ensures state { view self.new ≡ (loading M.Model.MARK C.Clock.MARK (view self.old) bytes.now).state }
+        ensures kept { Kept M.Model.MARK C.Clock.MARK (view self.old) (view self.new) bytes.now result }
+        ensures claims { AnswerClaims (run_of (setting (M.Model.orders self.old.model) (C.Clock.earlier self.old.clock) M.Model.MARK C.Clock.MARK) (view self.new).records) result }
         ensures model { self.new.model ≡ self.old.model }
         ensures clock { self.new.clock ≡ self.old.clock }
     {

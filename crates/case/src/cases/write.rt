@@ -18,12 +18,12 @@ use wire::writing::{Paper, PaperHead};
 
 impl<M: Model, C: Clock> Case<M, C> {
     fn put_run(&self, out: &mut [u8]) -> Result<usize, Fault>
-        ensures { Wrote (view self.now) (run_in M.Model.mark C.Clock.mark (view self.now)) out.old out.new result }
+        ensures { Wrote (view self.now) (run_in M.Model.MARK C.Clock.MARK (view self.now)) out.old out.new result }
     {
         let head = RunHead {
             processors: self.processors,
-            model: M::own_mark(),
-            clock: C::own_mark(),
+            model: M::MARK,
+            clock: C::MARK,
         };
         match writing::write_run(out, head, self.records.as_slice()) {
             Ok(n) => Ok(n),
@@ -33,8 +33,8 @@ impl<M: Model, C: Clock> Case<M, C> {
 
     // The run, at any stage. It loads, in any case of this model and clock, as the same processors and records.
     pub fn write_run(&self, out: &mut [u8]) -> Result<usize, Fault>
-        ensures wrote { Wrote (view self.now) (run_in M.Model.mark C.Clock.mark (view self.now)) out.old out.new result }
-        ensures reloads { (before : State) → Reloads M.Model.mark C.Clock.mark before (view self.now) (run_in M.Model.mark C.Clock.mark (view self.now)) }
+        ensures wrote { Wrote (view self.now) (run_in M.Model.MARK C.Clock.MARK (view self.now)) out.old out.new result }
+        ensures reloads { (before : State) → Reloads M.Model.MARK C.Clock.MARK before (view self.now) (run_in M.Model.MARK C.Clock.MARK (view self.now)) }
     {
         self.put_run(out)
     }
@@ -50,11 +50,11 @@ impl<M: Model, C: Clock> Case<M, C> {
     }
 
     fn put_paper(&self, out: &mut [u8], paper: Paper<'_>) -> Result<usize, Fault>
-        ensures { Wrote (view self.now) (paper_bytes (paper_number paper.entry) M.Model.mark C.Clock.mark (length self.now.records.items) (paper_body paper.entry)) out.old out.new result }
+        ensures { Wrote (view self.now) (paper_bytes (paper_number paper.entry) M.Model.MARK C.Clock.MARK (length self.now.records.items) (paper_body paper.entry)) out.old out.new result }
     {
         let head = PaperHead {
-            model: M::own_mark(),
-            clock: C::own_mark(),
+            model: M::MARK,
+            clock: C::MARK,
             records: self.records.len() as u8,
         };
         match writing::write_paper(out, head, paper) {
@@ -65,7 +65,7 @@ impl<M: Model, C: Clock> Case<M, C> {
 
     // The paper, where the verdict has one.
     pub fn write_paper(&self, out: &mut [u8]) -> Result<usize, Fault>
-        ensures { WroteSome (view self.now) (paper_in M.Model.mark C.Clock.mark (view self.now)) out.old out.new result }
+        ensures { WroteSome (view self.now) (paper_in M.Model.MARK C.Clock.MARK (view self.now)) out.old out.new result }
     {
         match self.stage.verdict() {
             Some(Verdict::Order) => self.put_paper(out, Paper::Order(&[])),

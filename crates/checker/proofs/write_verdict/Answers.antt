@@ -11,7 +11,7 @@ returns-in-Err g c =
     let out : List ℕ = c.write_slip.new.out in
     let slip : ℕ = c.in-Ok.slip in
     let told = c.in-Ok.ensures in
-    let none = no_paper s g.M.Model.mark g.C.Clock.mark (length s.records) (verdict_at s.stage) _ _ _ (search rules) c.in-Err.ensures in
+    let none = no_paper s g.M.Model.MARK g.C.Clock.MARK (length s.records) (verdict_at s.stage) _ _ _ (search rules) c.in-Err.ensures in
     record {
       within = search rules;
       bytes = front_kept slip (length out - slip) out c.write_paper.new.out (slip_in s) _ told.2 (sym told.0) ∙ sym (append-nil (slip_in s)) ∙ ap (λ l. slip_in s ++ l) (sym none);

@@ -24,7 +24,7 @@ fn next_after<'a, M: Model, C: Clock>(
     lines: &'a [Line],
 ) -> Option<Line>
     requires { length records.now ≤ most_records }
-    ensures { result ≡ next_of (run_of (setting (M.Model.orders model.now) (C.Clock.earlier clock.now) M.Model.mark C.Clock.mark) records.now) lines.now }
+    ensures { result ≡ next_of (run_of (setting (M.Model.orders model.now) (C.Clock.earlier clock.now) M.Model.MARK C.Clock.MARK) records.now) lines.now }
 {
     let Ok(premises) = Premises::new(model, clock, records, lines) else {
         unreachable()
@@ -60,7 +60,7 @@ impl Lines {
         records: &[Record],
     ) -> Option<bool>
         requires { length records.now ≤ most_records }
-        ensures { Took (next_of (run_of (setting (M.Model.orders model.now) (C.Clock.earlier clock.now) M.Model.mark C.Clock.mark) records.now) (lines_of self.old)) (lines_of self.old) (lines_of self.new) result }
+        ensures { Took (next_of (run_of (setting (M.Model.orders model.now) (C.Clock.earlier clock.now) M.Model.MARK C.Clock.MARK) records.now) (lines_of self.old)) (lines_of self.old) (lines_of self.new) result }
     {
         let line = next_after(model, clock, records, self.as_slice())?;
         let opposed = is_listed(self.as_slice(), line.second, line.first);
@@ -76,7 +76,7 @@ impl Lines {
         k: u64,
     ) -> Listed
         requires { length records.now ≤ most_records }
-        ensures { listing_of result (lines_of self.new) ≡ list_lines (run_of (setting (M.Model.orders model.now) (C.Clock.earlier clock.now) M.Model.mark C.Clock.mark) records.now) k (lines_of self.old) }
+        ensures { listing_of result (lines_of self.new) ≡ list_lines (run_of (setting (M.Model.orders model.now) (C.Clock.earlier clock.now) M.Model.MARK C.Clock.MARK) records.now) k (lines_of self.old) }
     {
         let mut count = 0;
         while count < k {
@@ -105,9 +105,9 @@ impl Lines {
         records: &[Record],
         k: u64,
     ) -> Result<Listed, Refusal>
-        ensures value { Infers (run_of (setting (M.Model.orders model.now) (C.Clock.earlier clock.now) M.Model.mark C.Clock.mark) records.now) k (lines_of self.old) (lines_of self.new) result }
-        ensures lists { IfOk result (λ l. Lists (run_of (setting (M.Model.orders model.now) (C.Clock.earlier clock.now) M.Model.mark C.Clock.mark) records.now) k (lines_of self.old) (listing_of l (lines_of self.new))) }
-        ensures out { IfOk result (λ l. Out (run_of (setting (M.Model.orders model.now) (C.Clock.earlier clock.now) M.Model.mark C.Clock.mark) records.now) k (listing_of l (lines_of self.new))) }
+        ensures value { Infers (run_of (setting (M.Model.orders model.now) (C.Clock.earlier clock.now) M.Model.MARK C.Clock.MARK) records.now) k (lines_of self.old) (lines_of self.new) result }
+        ensures lists { IfOk result (λ l. Lists (run_of (setting (M.Model.orders model.now) (C.Clock.earlier clock.now) M.Model.MARK C.Clock.MARK) records.now) k (lines_of self.old) (listing_of l (lines_of self.new))) }
+        ensures out { IfOk result (λ l. Out (run_of (setting (M.Model.orders model.now) (C.Clock.earlier clock.now) M.Model.MARK C.Clock.MARK) records.now) k (listing_of l (lines_of self.new))) }
     {
         if records.len() > MOST_RECORDS {
             return Err(Refusal::Full);

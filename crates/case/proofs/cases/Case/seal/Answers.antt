@@ -7,7 +7,7 @@ use Rattle.case.proofs.cases.Case.seal.Goals as goal
 pub returns : goal.returns
 returns g c =
     let self = c.args.self.now in
-    let S = setting (g.M.Model.orders self.model) (g.C.Clock.earlier self.clock) g.M.Model.mark g.C.Clock.mark in
+    let S = setting (g.M.Model.orders self.model) (g.C.Clock.earlier self.clock) g.M.Model.MARK g.C.Clock.MARK in
     let rs = vec_items self.records in
     record {
       answer = search rules;

@@ -8,7 +8,7 @@ use Rattle.inference.proofs.lines.Lines.infer.Goals as goal
 
 pub returns : goal.returns
 returns g c =
-    let R : Run = run_of (setting (g.M.Model.orders c.args.model.now) (g.C.Clock.earlier c.args.clock.now) g.M.Model.mark g.C.Clock.mark) c.args.records.now in
+    let R : Run = run_of (setting (g.M.Model.orders c.args.model.now) (g.C.Clock.earlier c.args.clock.now) g.M.Model.MARK g.C.Clock.MARK) c.args.records.now in
     let k : ℕ = c.args.k in
     let ls : List Line = lines_of c.args.self.now in
     let is = c.list_up_to.ensures in

@@ -5,7 +5,7 @@ use Rattle.inference.proofs.Onward.{Reached}
 use Rattle.inference.proofs.lines.Lines.list_up_to.Given as goal
 
 abbrev pub invariant-loop-count : goal.invariant-loop-count
-invariant-loop-count g l = Reached (run_of (setting (g.M.Model.orders l.model) (g.C.Clock.earlier l.clock) g.M.Model.mark g.C.Clock.mark) l.records) l.k (lines_of l.initial.self) l.count (lines_of l.self)
+invariant-loop-count g l = Reached (run_of (setting (g.M.Model.orders l.model) (g.C.Clock.earlier l.clock) g.M.Model.MARK g.C.Clock.MARK) l.records) l.k (lines_of l.initial.self) l.count (lines_of l.self)
 
 abbrev pub decreases-loop-count : goal.decreases-loop-count
 decreases-loop-count g l = l.k - l.count

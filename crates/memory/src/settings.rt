@@ -1,0 +1,22 @@
+// A model and a clock, which every case is made under.
+ghost use Rattle.std.specs.Prelude.{◌≡◌};
+ghost use Rattle.memory.specs.Runs.{setting, keeps};
+ghost use Rattle.memory.specs.Settings.{setting_of};
+
+use crate::clocks::Clock;
+use crate::models::Model;
+use crate::records::Record;
+
+#[derive(Clone, Copy, Drop)]
+pub struct Setting<M: Model, C: Clock> {
+    pub model: M,
+    pub clock: C,
+}
+
+impl<M: Model, C: Clock> Setting<M, C> {
+    pub fn keeps(&self, x: Record, y: Record) -> bool
+        ensures { result ≡ keeps (setting_of M.Model C.Clock self.now) x y }
+    {
+        x.processor == y.processor && self.model.must_precede(x.kind, y.kind, x.shares_address(y))
+    }
+}
