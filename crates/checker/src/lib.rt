@@ -41,7 +41,7 @@ fn write_refusal(fault: RunFault, room: &mut [u8]) -> usize
     ensures within { result ≤ 26 }
     ensures bytes { take result room.new ≡ notice_bytes (run_fault fault) }
 {
-    let Ok(n) = writing::write_notice(room, fault.fault()) else {
+    let Ok(n) = writing::write_notice(room, fault.into()) else {
         unreachable()
     };
     n

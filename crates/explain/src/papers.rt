@@ -11,7 +11,7 @@ use memory::records::Record;
 use memory::refusals::Fault;
 use std::io;
 use wire::faults::ByteFault;
-use wire::fields::{Field, Part, Reader};
+use wire::fields::{Field, Part, Reader, Text};
 
 // Room for a slip or a paper.
 const ROOM: usize = 4096;
@@ -41,7 +41,7 @@ fn tell_unwritten(rt: &HostRuntime, what: &str, fault: Fault) -> io::Result<()> 
 fn tell_paper(rt: &HostRuntime, records: &[Record], bytes: &[u8]) -> io::Result<()> {
     let size = bytes.len();
     println!(rt; "  paper: {size} bytes, read back:")?;
-    tell_fields(rt, records, &mut Reader::over_paper(bytes))
+    tell_fields(rt, records, &mut Reader::over(Text::Paper, bytes))
 }
 
 // The fields up to the end, or to the first that cannot be read.

@@ -59,7 +59,7 @@ pub fn tell<M: Model + Drop>(rt: &HostRuntime, model: M, bytes: &[u8]) -> anyhow
             Ok(Outcome::Answered)
         }
         Err(refused) => {
-            tell_refused(rt, &case, refused.fault())?;
+            tell_refused(rt, &case, refused.into())?;
             Ok(Outcome::Refused)
         }
     }

@@ -14,10 +14,5 @@ fn is_pair(line: Line, first: u8, second: u8) -> bool
 pub fn is_listed(lines: &[Line], first: u8, second: u8) -> bool
     ensures { result ≡ listed lines.now first second }
 {
-    for line in lines {
-        if is_pair(*line, first, second) {
-            return true;
-        }
-    }
-    false
+    lines.iter().any(|line| is_pair(*line, first, second))
 }

@@ -2,7 +2,7 @@
 use memory::refusals::{Fault, Layer, Refusal};
 use std::process::Abort;
 use wire::faults::ByteFault;
-use wire::fields::{Field, Part, Reader};
+use wire::fields::{Field, Part, Reader, Text};
 use wire::writing::{Paper, PaperHead, write_notice, write_paper};
 
 // A field's name, place and content; or a fault and its place.
@@ -40,7 +40,7 @@ const PAPER: [u8; 33] = [
 
 #[test]
 fn a_paper_is_read_field_by_field(rt: HostRuntime) {
-    let mut reader = Reader::over_paper(&PAPER);
+    let mut reader = Reader::over(Text::Paper, &PAPER);
     assert_eq!(rt; rest(&reader), Some(0));
     assert_eq!(rt; seen(reader.next()), ("head", 0, &[2, 1, 1, 9][..]));
     assert_eq!(rt; seen(reader.next()), ("line", 7, &[1, 2, 3, 4][..]));
@@ -55,7 +55,7 @@ fn a_paper_is_read_field_by_field(rt: HostRuntime) {
 
 // The first field of a paper.
 fn first(bytes: &[u8]) -> Seen<'_> {
-    let mut reader = Reader::over_paper(bytes);
+    let mut reader = Reader::over(Text::Paper, bytes);
     seen(reader.next())
 }
 
@@ -77,7 +77,7 @@ fn a_paper_has_no_field_of_a_run_and_no_end_with_content(rt: HostRuntime) {
         first_is(&rt, &[tag, 0, 0], "fault");
     }
     // a fault leaves the reader where it was
-    let mut reader = Reader::over_paper(&[0x12, 0, 1, 5, 0x1f, 0, 1, 7]);
+    let mut reader = Reader::over(Text::Paper, &[0x12, 0, 1, 5, 0x1f, 0, 1, 7]);
     assert_eq!(rt; seen(reader.next()), ("order", 0, &[5][..]));
     assert_eq!(rt; seen(reader.next()), ("fault", 4, &[][..]));
     assert_eq!(rt; seen(reader.next()), ("fault", 4, &[][..]));

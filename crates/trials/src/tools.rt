@@ -80,7 +80,7 @@ pub fn sealed(r: Result<Option<Verdict>, Fault>) -> Told {
 pub fn loaded(r: Result<Option<Verdict>, RunFault>) -> Told {
     match r {
         Ok(v) => verdict_told(v),
-        Err(f) => fault_told(f.fault()),
+        Err(f) => fault_told(f.into()),
     }
 }
 

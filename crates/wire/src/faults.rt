@@ -26,12 +26,12 @@ impl From<ByteFault> for RunFault {
     }
 }
 
-impl RunFault {
-    // The refusal, its layer and its place.
-    pub fn fault(self) -> Fault
-        ensures { result ≡ run_fault self }
-    {
-        match self {
+// The refusal, its layer and its place.
+impl From<RunFault> for Fault {
+    ghost from_gives = { λ e r. r ≡ run_fault e };
+
+    fn from(fault: RunFault) -> Fault {
+        match fault {
             RunFault::Bytes(e) => Fault {
                 refusal: Refusal::Malformed,
                 layer: Layer::RunBytes,

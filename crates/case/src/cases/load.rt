@@ -15,7 +15,7 @@ use memory::models::Model;
 use memory::refusals::Refusal;
 use memory::verdicts::Verdict;
 use wire::faults::{ByteFault, RunFault};
-use wire::fields::{Field, Part, Reader, RunHead};
+use wire::fields::{Field, Part, Reader, RunHead, Text};
 
 impl<M: Model, C: Clock> Case<M, C> {
     // A record field: its entry is admitted, and the next field follows.
@@ -120,7 +120,7 @@ impl<M: Model, C: Clock> Case<M, C> {
         ensures model { self.new.model ≡ self.old.model }
         ensures clock { self.new.clock ≡ self.old.clock }
     {
-        let mut reader = Reader::over_run(bytes);
+        let mut reader = Reader::over(Text::Run, bytes);
         self.load_head(&mut reader)?;
         self.load_fields(&mut reader)?;
         reader.finish()?;

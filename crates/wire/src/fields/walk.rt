@@ -1,6 +1,5 @@
 // Reading, field by field.
 ghost use Rattle.std.specs.Prelude.{◌≡◌, ◌<◌, length, MatchResult};
-ghost use Rattle.wire.specs.declared.fields.Text.TheVariants.{Run, Paper};
 ghost use Rattle.wire.specs.Fields.{sort_of, tag_of, named, next_field, fault_at};
 ghost use Rattle.wire.specs.Seen.{seen, shown, left, Passed};
 ghost use Rattle.wire.specs.Framed.{Framed, Unframed};
@@ -72,27 +71,12 @@ impl<'a> Reader<'a> {
         Ok(())
     }
 
-    pub fn over_run(bytes: &'a [u8]) -> Reader<'a>
+    // A reader at the first byte.
+    pub fn over(text: Text, bytes: &'a [u8]) -> Reader<'a>
         ensures bytes { result.bytes.now ≡ bytes.now }
         ensures start { result.at ≡ 0 }
-        ensures text { result.text ≡ Run }
+        ensures text { result.text ≡ text }
     {
-        Reader {
-            bytes,
-            at: 0,
-            text: Text::Run,
-        }
-    }
-
-    pub fn over_paper(bytes: &'a [u8]) -> Reader<'a>
-        ensures bytes { result.bytes.now ≡ bytes.now }
-        ensures start { result.at ≡ 0 }
-        ensures text { result.text ≡ Paper }
-    {
-        Reader {
-            bytes,
-            at: 0,
-            text: Text::Paper,
-        }
+        Reader { bytes, at: 0, text }
     }
 }

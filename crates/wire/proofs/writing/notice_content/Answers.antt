@@ -19,6 +19,6 @@ pub returns : goal.returns
 returns c =
     let f = c.args.fault in
     let zeros : List ℕ = 0 ∷ 0 ∷ 0 ∷ 0 ∷ 0 ∷ 0 ∷ [] in
-    let one = c.put.ensures ∙ (let a = c.number.ensures in let b = c.number-2.ensures in λ i. over zeros 0 (a i ∷ b i ∷ [])) in
+    let one = c.put.ensures ∙ (let a = c.from.ensures in let b = c.from-2.ensures in λ i. over zeros 0 (a i ∷ b i ∷ [])) in
     let two = over_next zeros _ _ (refusal_number f.refusal ∷ layer_number f.layer ∷ []) (digits 4 f.place) 2 one refl (omega arith) (c.put-2.ensures ∙ ap (over _ 2) (c.to_be_bytes.ensures ∙ sym (digits_4 (f.place % 4294967296)) ∙ low_four f.place)) in
     two ∙ over_all zeros _ refl
