@@ -1,4 +1,4 @@
-// The limits of a run; specs/Limits.antt has the same numbers.
+// The limits of a run. specs/Limits.antt says the numbers again, so that a changed constant breaks a promise and does not change it.
 
 pub const MOST_RECORDS: usize = 64;
 

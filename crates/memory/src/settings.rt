@@ -1,6 +1,6 @@
 // A model and a clock, which every case is made under.
 ghost use Rattle.std.specs.Prelude.{◌≡◌};
-ghost use Rattle.memory.specs.Runs.{setting, keeps};
+ghost use Rattle.memory.specs.Runs.{keeps};
 ghost use Rattle.memory.specs.Settings.{setting_of};
 
 use crate::clocks::Clock;
@@ -14,6 +14,7 @@ pub struct Setting<M: Model, C: Clock> {
 }
 
 impl<M: Model, C: Clock> Setting<M, C> {
+    // The records are of one processor, and the model orders x before a later y.
     pub fn keeps(&self, x: Record, y: Record) -> bool
         ensures { result ≡ keeps (setting_of M.Model C.Clock self.now) x y }
     {

@@ -11,6 +11,7 @@ pub enum Verdict {
     Exhausted,
 }
 
+// A function, since `From` cannot be implemented for std's `Option`.
 pub fn verdict_number(verdict: Option<Verdict>) -> u8
     ensures { result ≡ verdict_number verdict }
 {
