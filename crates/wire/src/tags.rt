@@ -1,21 +1,52 @@
 // The tags of fields; specs/Tags.antt has the same numbers.
+ghost use Rattle.std.specs.Prelude.{◌≡◌};
+ghost use Rattle.std.specs.Result.{result_ok};
+ghost use Rattle.wire.specs.Tags.{tag_number, tag_at};
 
-pub const RUN_HEAD: u8 = 0x01;
+#[derive(Clone, Copy, Debug, PartialEq, Eq)]
+pub enum Tag {
+    RunHead = 0x01,
+    Record = 0x02,
+    RunEnd = 0x03,
+    PaperHead = 0x10,
+    Line = 0x11,
+    Order = 0x12,
+    Orphan = 0x13,
+    Slip = 0x1d,
+    Notice = 0x1e,
+    PaperEnd = 0x1f,
+}
 
-pub const RECORD: u8 = 0x02;
+// A number that no tag has.
+#[derive(Clone, Copy, Debug, PartialEq, Eq)]
+pub struct UnknownTag;
 
-pub const RUN_END: u8 = 0x03;
+impl From<Tag> for u8 {
+    ghost from_gives = { λ tag r. r ≡ tag_number tag };
 
-pub const PAPER_HEAD: u8 = 0x10;
+    fn from(tag: Tag) -> u8 {
+        tag as u8
+    }
+}
 
-pub const LINE: u8 = 0x11;
+impl TryFrom<u8> for Tag {
+    type Error = UnknownTag;
 
-pub const ORDER: u8 = 0x12;
+    ghost try_from_gives = { λ number r. result_ok r ≡ tag_at number };
 
-pub const ORPHAN: u8 = 0x13;
-
-pub const SLIP: u8 = 0x1d;
-
-pub const NOTICE: u8 = 0x1e;
-
-pub const PAPER_END: u8 = 0x1f;
+    fn try_from(number: u8) -> Result<Tag, UnknownTag> {
+        match number {
+            0x01 => Ok(Tag::RunHead),
+            0x02 => Ok(Tag::Record),
+            0x03 => Ok(Tag::RunEnd),
+            0x10 => Ok(Tag::PaperHead),
+            0x11 => Ok(Tag::Line),
+            0x12 => Ok(Tag::Order),
+            0x13 => Ok(Tag::Orphan),
+            0x1d => Ok(Tag::Slip),
+            0x1e => Ok(Tag::Notice),
+            0x1f => Ok(Tag::PaperEnd),
+            _ => Err(UnknownTag),
+        }
+    }
+}

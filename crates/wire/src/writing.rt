@@ -3,10 +3,11 @@ ghost use Rattle.std.specs.Prelude.{◌≡◌, ◌+◌, ◌*◌, ◌^◌, ◌<�
 ghost use Rattle.memory.specs.Admission.{logged};
 ghost use Rattle.memory.specs.Numbers.{rule_number, verdict_number, refusal_number, layer_number};
 ghost use Rattle.wire.specs.Bytes.{digits, field, all_of, entry_bytes, record_field, lines_body, run_bytes, slip_bytes, paper_bytes, notice_bytes};
+ghost use Rattle.wire.specs.Tags.{tag_number};
 ghost use Rattle.wire.specs.Written.{over, Written, paper_number, paper_body};
 
 use crate::fields::RunHead;
-use crate::tags;
+use crate::tags::Tag;
 use memory::lines::Line;
 use memory::records::Record;
 use memory::refusals::Fault;
@@ -40,13 +41,13 @@ fn put(out: &mut [u8], at: usize, bytes: &[u8])
 }
 
 // Writes a field, and answers the place behind it.
-fn put_field(out: &mut [u8], at: usize, tag: u8, content: &[u8]) -> usize
+fn put_field(out: &mut [u8], at: usize, tag: Tag, content: &[u8]) -> usize
     requires { at + 3 + length content.now ≤ length out.old }
     ensures end { result ≡ at + 3 + length content.now }
-    ensures bytes { out.new ≡ over out.old at (field tag content.now) }
+    ensures bytes { out.new ≡ over out.old at (field (tag_number tag) content.now) }
 {
     let [high, low] = ((content.len() % 65536) as u16).to_be_bytes();
-    put(out, at, &[tag, high, low]);
+    put(out, at, &[u8::from(tag), high, low]);
     put(out, at + 3, content);
     at + 3 + content.len()
 }
@@ -70,7 +71,7 @@ fn put_records(out: &mut [u8], start: usize, records: &[Record]) -> usize
 {
     let mut at = start;
     for r in records {
-        at = put_field(out, at, tags::RECORD, &record_content(*r));
+        at = put_field(out, at, Tag::Record, &record_content(*r));
     }
     at
 }
@@ -92,11 +93,11 @@ pub fn write_run(out: &mut [u8], head: RunHead, records: &[Record]) -> Result<us
     let first = put_field(
         out,
         0,
-        tags::RUN_HEAD,
+        Tag::RunHead,
         &[head.processors, head.model, head.clock],
     );
     let end = put_records(out, first, records);
-    Ok(put_field(out, end, tags::RUN_END, &[]))
+    Ok(put_field(out, end, Tag::RunEnd, &[]))
 }
 
 fn slip_content(verdict: Option<Verdict>, steps: u64) -> [u8; 9]
@@ -115,7 +116,7 @@ pub fn write_slip(out: &mut [u8], verdict: Option<Verdict>, steps: u64) -> Resul
     if out.len() < 12 {
         return Err(TooShort);
     }
-    Ok(put_field(out, 0, tags::SLIP, &slip_content(verdict, steps)))
+    Ok(put_field(out, 0, Tag::Slip, &slip_content(verdict, steps)))
 }
 
 fn line_content(line: Line) -> [u8; 4]
@@ -131,7 +132,7 @@ fn put_lines(out: &mut [u8], start: usize, lines: &[Line]) -> usize
 {
     let mut at = start;
     for line in lines {
-        at = put_field(out, at, tags::LINE, &line_content(*line));
+        at = put_field(out, at, Tag::Line, &line_content(*line));
     }
     at
 }
@@ -164,9 +165,9 @@ impl Paper<'_> {
         ensures bytes { out.new ≡ over out.old at (paper_body self.entry) }
     {
         match self {
-            Paper::Order(order) => put_field(out, at, tags::ORDER, order),
+            Paper::Order(order) => put_field(out, at, Tag::Order, order),
             Paper::Opposed(lines) => put_lines(out, at, lines),
-            Paper::Orphan(load) => put_field(out, at, tags::ORPHAN, &[load]),
+            Paper::Orphan(load) => put_field(out, at, Tag::Orphan, &[load]),
         }
     }
 }
@@ -181,11 +182,11 @@ pub fn write_paper(out: &mut [u8], head: PaperHead, paper: Paper<'_>) -> Result<
     let body = put_field(
         out,
         0,
-        tags::PAPER_HEAD,
+        Tag::PaperHead,
         &[paper.number(), head.model, head.clock, head.records],
     );
     let end = paper.put_body(out, body);
-    Ok(put_field(out, end, tags::PAPER_END, &[]))
+    Ok(put_field(out, end, Tag::PaperEnd, &[]))
 }
 
 fn notice_content(fault: Fault) -> [u8; 6]
@@ -212,5 +213,5 @@ pub fn write_notice(out: &mut [u8], fault: Fault) -> Result<usize, TooShort>
     if out.len() < 9 {
         return Err(TooShort);
     }
-    Ok(put_field(out, 0, tags::NOTICE, &notice_content(fault)))
+    Ok(put_field(out, 0, Tag::Notice, &notice_content(fault)))
 }

@@ -6,7 +6,7 @@ use checker::answer;
 use intake::{ROOM, Request, asked, read_input};
 use std::io::Write;
 use std::process::ExitCode;
-use wire::tags;
+use wire::tags::Tag;
 
 // Writes the answer; a notice is an error, so that the exit status tells of it.
 fn run(rt: &HostRuntime) -> anyhow::Result<()> {
@@ -14,7 +14,7 @@ fn run(rt: &HostRuntime) -> anyhow::Result<()> {
     let came = read_input(rt, &mut buffer)?;
     let output = answer(rt.alloc(), &buffer[0..came])?;
     rt.stdout().write_all(output.as_slice())?;
-    if output.first().copied() == Some(tags::NOTICE) {
+    if output.first().copied() == Some(u8::from(Tag::Notice)) {
         return Err(anyhow!("the run is refused, and the notice says why"));
     }
     Ok(())

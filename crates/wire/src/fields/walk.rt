@@ -6,7 +6,7 @@ ghost use Rattle.wire.specs.Framed.{Framed, Unframed};
 
 use crate::faults::ByteFault;
 use crate::fields::{Field, Part, Reader, Text};
-use crate::tags;
+use crate::tags::Tag;
 
 // The field of a text that a tag and a content make.
 fn field_named<'a>(text: Text, tag: u8, part: Part<'a>) -> Result<Field<'a>, ByteFault>
@@ -15,15 +15,15 @@ fn field_named<'a>(text: Text, tag: u8, part: Part<'a>) -> Result<Field<'a>, Byt
         (λ f. (tag ≡ tag_of text (shown f).sort) × ((shown f).place ≡ part.entry.place) × ((shown f).content ≡ part.entry.content.now))
         (λ e. e ≡ fault_at part.entry.place) }
 {
-    match (text, tag) {
-        (Text::Run, tags::RUN_HEAD) => Ok(Field::Head(part)),
-        (Text::Run, tags::RECORD) => Ok(Field::Record(part)),
-        (Text::Paper, tags::PAPER_HEAD) => Ok(Field::Head(part)),
-        (Text::Paper, tags::LINE) => Ok(Field::Line(part)),
-        (Text::Paper, tags::ORDER) => Ok(Field::Order(part)),
-        (Text::Paper, tags::ORPHAN) => Ok(Field::Orphan(part)),
-        (Text::Run, tags::RUN_END) | (Text::Paper, tags::PAPER_END) if part.content.is_empty() =>
-            Ok(Field::End { place: part.place }),
+    match (text, Tag::try_from(tag)) {
+        (Text::Run, Ok(Tag::RunHead)) => Ok(Field::Head(part)),
+        (Text::Run, Ok(Tag::Record)) => Ok(Field::Record(part)),
+        (Text::Paper, Ok(Tag::PaperHead)) => Ok(Field::Head(part)),
+        (Text::Paper, Ok(Tag::Line)) => Ok(Field::Line(part)),
+        (Text::Paper, Ok(Tag::Order)) => Ok(Field::Order(part)),
+        (Text::Paper, Ok(Tag::Orphan)) => Ok(Field::Orphan(part)),
+        (Text::Run, Ok(Tag::RunEnd)) | (Text::Paper, Ok(Tag::PaperEnd))
+            if part.content.is_empty() => Ok(Field::End { place: part.place }),
         _ => Err(ByteFault { place: part.place }),
     }
 }
