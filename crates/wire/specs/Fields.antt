@@ -90,13 +90,20 @@ abbrev pub later : List Piece → List Piece
 later [] = []
 later (p ∷ ps) = ps
 
+-- what a content of so many bytes says, in a field at a place
+abbrev pub content_of : {X : Type 0} → ℕ → (List ℕ → X) → ℕ → List ℕ → Result X ByteFault
+content_of size said at c = cond (length c == size) (Ok (said c)) (Err (fault_at at))
+
 -- the entry that a record field at a place says
 abbrev pub entry_of : ℕ → List ℕ → Result Entry ByteFault
-entry_of at c = cond (length c == 30) (Ok (entry_in c)) (Err (fault_at at))
+entry_of = content_of 30 entry_in
 
--- what the three bytes of a run's head say, and what a head at a place says
+-- what the three bytes of a run's head say, these bytes, and what a head at a place says
 abbrev pub run_head_in : List ℕ → RunHead
 run_head_in c = record { processors = slice_index c 0; model = slice_index c 1; clock = slice_index c 2 }
 
+abbrev pub run_head_content : RunHead → List ℕ
+run_head_content h = h.processors ∷ h.model ∷ h.clock ∷ []
+
 abbrev pub run_head_of : ℕ → List ℕ → Result RunHead ByteFault
-run_head_of at c = cond (length c == 3) (Ok (run_head_in c)) (Err (fault_at at))
+run_head_of = content_of 3 run_head_in

@@ -12,6 +12,7 @@ ghost use Rattle.case.specs.Views.{view};
 use crate::cases::Case;
 use memory::clocks::Clock;
 use memory::models::Model;
+use memory::records::Entry;
 use memory::refusals::Refusal;
 use memory::verdicts::Verdict;
 use wire::faults::{ByteFault, RunFault};
@@ -25,7 +26,7 @@ impl<M: Model, C: Clock> Case<M, C> {
         ensures model { self.new.model ≡ self.old.model }
         ensures clock { self.new.clock ≡ self.old.clock }
     {
-        let entry = part.entry()?;
+        let entry = part.read::<Entry>()?;
         match self.admit_lawful(entry) {
             Ok(_) => Ok(true),
             Err(refusal) => Err(RunFault::Content {
@@ -105,7 +106,7 @@ impl<M: Model, C: Clock> Case<M, C> {
         let Field::Head(part) = reader.next()? else {
             return Err(RunFault::Bytes(ByteFault { place: 0 }));
         };
-        let head = part.run_head()?;
+        let head = part.read::<RunHead>()?;
         self.begin(head)
     }
 

@@ -1,74 +1,75 @@
 // What the content of a field says.
-ghost use Rattle.std.specs.Prelude.{◌≡◌, ◌^◌, ◌<◌, ◌≤◌, [], ◌∷◌, length, IfOk};
-ghost use Rattle.wire.specs.Bytes.{digits, number_on, entry_bytes, entry_in};
-ghost use Rattle.wire.specs.Fields.{entry_of, run_head_in, run_head_of};
+ghost use Rattle.std.specs.Prelude.{◌≡◌, ℕ, cond, ◌==◌, [], ◌∷◌, List, length, Some, None, IfOk, IfSome};
+ghost use Rattle.wire.specs.Bytes.{entry_bytes, entry_in};
+ghost use Rattle.wire.specs.Fields.{content_of, run_head_in, run_head_content};
 
 use crate::faults::ByteFault;
 use crate::fields::{Part, RunHead};
 use memory::records::Entry;
 
-// The number that at most eight bytes write, the highest first; written again, it is these bytes.
-fn number(bytes: &[u8]) -> u64
-    requires { length bytes.now ≤ 8 }
-    ensures value { result ≡ number_on 0 bytes.now }
-    ensures bound { result < 256 ^ length bytes.now }
-    ensures back { digits (length bytes.now) result ≡ bytes.now }
-{
-    let mut n: u64 = 0;
-    for b in bytes {
-        n = n * 256 + u64::from(*b);
-    }
-    n
+// What so many bytes say; written again, it is these bytes. Other lengths say nothing.
+pub trait Content: Sized {
+    ghost size: { ℕ };
+
+    ghost said: { List ℕ → Self };
+
+    ghost bytes: { Self → List ℕ };
+
+    fn read(content: &[u8]) -> Option<Self>
+        ensures value { result ≡ cond (length content.now == size) (Some (said content.now)) None }
+        ensures back { IfSome result (λ x. bytes x ≡ content.now) };
 }
 
-// The entry that the 30 bytes of a record say; written again, it is these bytes.
-fn entry_in(c: &[u8]) -> Entry
-    requires { length c.now ≡ 30 }
-    ensures value { result ≡ entry_in c.now }
-    ensures back { entry_bytes result ≡ c.now }
-{
-    Entry {
-        processor: c[0],
-        kind: c[1],
-        address: number(&c[2..6]) as u32,
-        value: number(&c[6..14]),
-        enter: number(&c[14..22]),
-        commit: number(&c[22..30]),
+impl Content for Entry {
+    ghost size = { 30 };
+
+    ghost said = { entry_in };
+
+    ghost bytes = { entry_bytes };
+
+    fn read(content: &[u8]) -> Option<Entry> {
+        let (front, rest) = content.split_first_chunk::<2>()?;
+        let (address, rest) = rest.split_first_chunk::<4>()?;
+        let (value, rest) = rest.split_first_chunk::<8>()?;
+        let (enter, rest) = rest.split_first_chunk::<8>()?;
+        let commit = rest.as_array::<8>()?;
+        let [processor, kind] = *front;
+        Some(Entry {
+            processor,
+            kind,
+            address: u32::from_be_bytes(*address),
+            value: u64::from_be_bytes(*value),
+            enter: u64::from_be_bytes(*enter),
+            commit: u64::from_be_bytes(*commit),
+        })
     }
 }
 
-fn run_head_in(c: &[u8]) -> RunHead
-    requires { length c.now ≡ 3 }
-    ensures value { result ≡ run_head_in c.now }
-    ensures back { result.processors ∷ result.model ∷ result.clock ∷ [] ≡ c.now }
-{
-    RunHead {
-        processors: c[0],
-        model: c[1],
-        clock: c[2],
+impl Content for RunHead {
+    ghost size = { 3 };
+
+    ghost said = { run_head_in };
+
+    ghost bytes = { run_head_content };
+
+    fn read(content: &[u8]) -> Option<RunHead> {
+        let [processors, model, clock] = *content else {
+            return None;
+        };
+        Some(RunHead {
+            processors,
+            model,
+            clock,
+        })
     }
 }
 
 impl Part<'_> {
-    // The entry that a record field says; written again, it is the same bytes.
-    pub fn entry(self) -> Result<Entry, ByteFault>
-        ensures value { result ≡ entry_of self.entry.place self.entry.content.now }
-        ensures back { IfOk result (λ e. entry_bytes e ≡ self.entry.content.now) }
+    // What the content says; written again, it is the same bytes.
+    pub fn read<T: Content>(self) -> Result<T, ByteFault>
+        ensures value { result ≡ content_of T.size T.said self.entry.place self.entry.content.now }
+        ensures back { IfOk result (λ x. T.bytes x ≡ self.entry.content.now) }
     {
-        if self.content.len() != 30 {
-            return Err(ByteFault { place: self.place });
-        }
-        Ok(entry_in(self.content))
-    }
-
-    // What the head of a run says; written again, it is the same bytes.
-    pub fn run_head(self) -> Result<RunHead, ByteFault>
-        ensures value { result ≡ run_head_of self.entry.place self.entry.content.now }
-        ensures back { IfOk result (λ h. h.processors ∷ h.model ∷ h.clock ∷ [] ≡ self.entry.content.now) }
-    {
-        if self.content.len() != 3 {
-            return Err(ByteFault { place: self.place });
-        }
-        Ok(run_head_in(self.content))
+        T::read(self.content).ok_or(ByteFault { place: self.place })
     }
 }
