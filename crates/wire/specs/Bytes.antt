@@ -58,8 +58,11 @@ abbrev pub paper_bytes : ℕ → ℕ → ℕ → ℕ → List ℕ → List ℕ
 paper_bytes verdict model clock n body = field paper_head_tag (verdict ∷ model ∷ clock ∷ n ∷ []) ++ (body ++ field paper_end_tag [])
 
 -- a line: its rule's number, its first, its second, its third
+abbrev pub line_bytes : Line → List ℕ
+line_bytes l = rule_number l.rule ∷ l.first ∷ l.second ∷ l.third ∷ []
+
 abbrev pub line_field : Line → List ℕ
-line_field l = field line_tag (rule_number l.rule ∷ l.first ∷ l.second ∷ l.third ∷ [])
+line_field l = field line_tag (line_bytes l)
 
 -- the bodies of an order, of opposed lines and of an orphan
 abbrev pub order_body : List ℕ → List ℕ

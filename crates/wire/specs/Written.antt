@@ -1,26 +1,26 @@
 -- What writing leaves in lent bytes. Assumes nothing.
-use Rattle.std.specs.Prelude.{◌≡◌, ℕ, ◌+◌, ◌<◌, ◌≤◌, List, ◌++◌, length, take, drop, Some, Ok, Err, Result}
+use Rattle.std.specs.Prelude.{◌≡◌, ℕ, ◌<◌, ◌≤◌, List, ◌++◌, length, drop, Some, Ok, Err, Result}
 use Rattle.memory.specs.Numbers.{verdict_number}
+use Rattle.memory.specs.declared.verdicts.Verdict.{Verdict}
 use Rattle.memory.specs.declared.verdicts.Verdict.TheVariants as verdict
 use Rattle.wire.specs.declared.writing.TooShort.{TooShort}
 use Rattle.wire.specs.declared.writing.Paper.{Paper}
 use Rattle.wire.specs.declared.writing.Paper.TheVariants.{Order, Opposed, Orphan}
 use Rattle.wire.specs.Bytes.{order_body, lines_body, orphan_body}
 
--- bs written over xs from a place on
-unfoldable pub over : List ℕ → ℕ → List ℕ → List ℕ
-over xs at bs = take at xs ++ (bs ++ drop (at + length bs) xs)
-
 -- bs written into out: the first bytes are exactly these and the rest is as before; or there are too few, and all are as before
 abbrev pub Written : List ℕ → List ℕ → List ℕ → Result ℕ TooShort → Type 0
 Written bs out after (Ok n) = (n ≡ length bs) × (length bs ≤ length out) × (after ≡ bs ++ drop (length bs) out)
 Written bs out after (Err s) = (length out < length bs) × (after ≡ out)
 
--- the verdict that a paper is of, and its body
+-- the verdict that a paper is of, its number, and the paper's body
+abbrev pub paper_verdict : Paper → Verdict
+paper_verdict (Order order) = verdict.Order
+paper_verdict (Opposed ls) = verdict.Opposed
+paper_verdict (Orphan l) = verdict.Orphan l
+
 abbrev pub paper_number : Paper → ℕ
-paper_number (Order order) = verdict_number (Some verdict.Order)
-paper_number (Opposed ls) = verdict_number (Some verdict.Opposed)
-paper_number (Orphan l) = verdict_number (Some (verdict.Orphan l))
+paper_number p = verdict_number (Some (paper_verdict p))
 
 abbrev pub paper_body : Paper → List ℕ
 paper_body (Order order) = order_body order.now

@@ -1,10 +1,14 @@
 // Encoders into lent bytes. Where the bytes are too few, nothing is written.
-ghost use Rattle.std.specs.Prelude.{◌≡◌, ◌+◌, ◌*◌, ◌^◌, ◌<◌, ◌≤◌, [], ◌∷◌, length, nat_le};
+ghost use Rattle.std.specs.Prelude.{◌≡◌, ◌+◌, ◌^◌, ◌<◌, ◌≤◌, ◌∷◌, length, refl, MatchResult};
 ghost use Rattle.memory.specs.Admission.{logged};
-ghost use Rattle.memory.specs.Numbers.{rule_number, verdict_number, refusal_number, layer_number};
-ghost use Rattle.wire.specs.Bytes.{digits, field, all_of, entry_bytes, record_field, lines_body, run_bytes, slip_bytes, paper_bytes, notice_bytes};
+ghost use Rattle.memory.specs.Numbers.{verdict_number, refusal_number, layer_number};
+ghost use Rattle.wire.specs.Bytes.{digits, field, entry_bytes, line_bytes, run_bytes, slip_bytes, paper_bytes, notice_bytes};
+ghost use Rattle.wire.specs.Pens.{HasRoom, Put};
 ghost use Rattle.wire.specs.Tags.{tag_number};
-ghost use Rattle.wire.specs.Written.{over, Written, paper_number, paper_body};
+ghost use Rattle.wire.specs.Written.{Written, paper_verdict, paper_number, paper_body};
+ghost use Rattle.wire.specs.declared.tags.Tag.TheVariants as tag;
+
+mod pen;
 
 use crate::fields::RunHead;
 use crate::tags::Tag;
@@ -12,6 +16,7 @@ use memory::lines::Line;
 use memory::records::Record;
 use memory::refusals::Fault;
 use memory::verdicts::{Verdict, verdict_number};
+use pen::{Encode, Pen};
 
 // The lent bytes are too few.
 #[derive(Clone, Copy)]
@@ -33,121 +38,152 @@ pub struct PaperHead {
     pub records: u8,
 }
 
-fn put(out: &mut [u8], at: usize, bytes: &[u8])
-    requires { at + length bytes.now ≤ length out.old }
-    ensures { out.new ≡ over out.old at bytes.now }
-{
-    out[at..at + bytes.len()].copy_from_slice(bytes);
+// The verdict and the total of steps.
+#[derive(Clone, Copy)]
+struct Slip {
+    verdict: Option<Verdict>,
+    steps: u64,
 }
 
-// Writes a field, and answers the place behind it.
-fn put_field(out: &mut [u8], at: usize, tag: Tag, content: &[u8]) -> usize
-    requires { at + 3 + length content.now ≤ length out.old }
-    ensures end { result ≡ at + 3 + length content.now }
-    ensures bytes { out.new ≡ over out.old at (field (tag_number tag) content.now) }
-{
-    let [high, low] = ((content.len() % 65536) as u16).to_be_bytes();
-    put(out, at, &[u8::from(tag), high, low]);
-    put(out, at + 3, content);
-    at + 3 + content.len()
-}
+impl Encode for Record {
+    const TAG: Tag = Tag::Record;
 
-fn record_content(r: Record) -> [u8; 30]
-    ensures { result ≡ entry_bytes (logged r) }
-{
-    let mut content = [0; 30];
-    put(&mut content, 0, &[r.processor, u8::from(r.kind)]);
-    put(&mut content, 2, &r.address.to_be_bytes());
-    put(&mut content, 6, &r.value.to_be_bytes());
-    put(&mut content, 14, &r.enter.to_be_bytes());
-    put(&mut content, 22, &r.commit.to_be_bytes());
-    content
-}
+    const LEN: u16 = 30;
 
-fn put_records(out: &mut [u8], start: usize, records: &[Record]) -> usize
-    requires { start + 33 * length records.now ≤ length out.old }
-    ensures end { result ≡ start + 33 * length records.now }
-    ensures bytes { out.new ≡ over out.old start (all_of record_field records.now) }
-{
-    let mut at = start;
-    for r in records {
-        at = put_field(out, at, Tag::Record, &record_content(*r));
+    ghost TAG = { tag.Record };
+
+    ghost LEN = { 30 };
+
+    ghost bytes = { λ r. entry_bytes (logged r) };
+
+    ghost long = { λ r. refl };
+
+    fn put(self, pen: &mut Pen<'_>) {
+        pen.put(&[self.processor, u8::from(self.kind)]);
+        pen.put(&self.address.to_be_bytes());
+        pen.put(&self.value.to_be_bytes());
+        pen.put(&self.enter.to_be_bytes());
+        pen.put(&self.commit.to_be_bytes());
     }
-    at
 }
 
-// So many bytes hold a run of so many records.
-fn run_fits(room: usize, records: usize) -> bool
-    ensures { result ≡ nat_le (9 + 33 * records) room }
+impl Encode for Line {
+    const TAG: Tag = Tag::Line;
+
+    const LEN: u16 = 4;
+
+    ghost TAG = { tag.Line };
+
+    ghost LEN = { 4 };
+
+    ghost bytes = { line_bytes };
+
+    ghost long = { λ l. refl };
+
+    fn put(self, pen: &mut Pen<'_>) {
+        pen.put(&[u8::from(self.rule), self.first, self.second, self.third]);
+    }
+}
+
+impl Encode for Slip {
+    const TAG: Tag = Tag::Slip;
+
+    const LEN: u16 = 9;
+
+    ghost TAG = { tag.Slip };
+
+    ghost LEN = { 9 };
+
+    ghost bytes = { λ s. verdict_number s.verdict ∷ digits 8 s.steps };
+
+    ghost long = { λ s. refl };
+
+    fn put(self, pen: &mut Pen<'_>) {
+        pen.put(&[verdict_number(self.verdict)]);
+        pen.put(&self.steps.to_be_bytes());
+    }
+}
+
+// Its refusal's number, its layer and its place, of which four bytes are written.
+impl Encode for Fault {
+    const TAG: Tag = Tag::Notice;
+
+    const LEN: u16 = 6;
+
+    ghost TAG = { tag.Notice };
+
+    ghost LEN = { 6 };
+
+    ghost bytes = { λ f. refusal_number f.refusal ∷ layer_number f.layer ∷ digits 4 f.place };
+
+    ghost long = { λ f. refl };
+
+    fn put(self, pen: &mut Pen<'_>) {
+        let [.., a, b, c, d] = self.place.to_be_bytes();
+        pen.put(&[u8::from(self.refusal), u8::from(self.layer), a, b, c, d]);
+    }
+}
+
+// Whether so many bytes are lent.
+fn check_room(out: &[u8], size: usize) -> Result<(), TooShort>
+    ensures { MatchResult result (λ _. size ≤ length out.now) (λ _. length out.now < size) }
 {
-    room >= 9 && records <= (room - 9) / 33
+    if out.len() < size {
+        return Err(TooShort);
+    }
+    Ok(())
+}
+
+// One field.
+fn write_field<T: Encode>(out: &mut [u8], x: T) -> Result<usize, TooShort>
+    ensures { Written (field (tag_number T.TAG) (T.bytes x)) out.old out.new result }
+{
+    check_room(out, 3 + usize::from(T::LEN))?;
+    let mut pen = Pen::over(out);
+    pen.write(x);
+    Ok(pen.written())
 }
 
 // A head, the records, an end.
 pub fn write_run(out: &mut [u8], head: RunHead, records: &[Record]) -> Result<usize, TooShort>
     ensures { Written (run_bytes head.processors head.model head.clock records.now) out.old out.new result }
 {
-    if !run_fits(out.len(), records.len()) {
-        return Err(TooShort);
-    }
-    let first = put_field(
-        out,
-        0,
-        Tag::RunHead,
-        &[head.processors, head.model, head.clock],
-    );
-    let end = put_records(out, first, records);
-    Ok(put_field(out, end, Tag::RunEnd, &[]))
-}
-
-fn slip_content(verdict: Option<Verdict>, steps: u64) -> [u8; 9]
-    ensures { result ≡ verdict_number verdict ∷ digits 8 steps }
-{
-    let mut content = [0; 9];
-    put(&mut content, 0, &[verdict_number(verdict)]);
-    put(&mut content, 1, &steps.to_be_bytes());
-    content
+    check_room(out, 9 + 33 * records.len())?;
+    let mut pen = Pen::over(out);
+    pen.put_field(Tag::RunHead, &[head.processors, head.model, head.clock]);
+    pen.write_all(records);
+    pen.put_field(Tag::RunEnd, &[]);
+    Ok(pen.written())
 }
 
 // The verdict and the total of steps.
 pub fn write_slip(out: &mut [u8], verdict: Option<Verdict>, steps: u64) -> Result<usize, TooShort>
     ensures { Written (slip_bytes verdict steps) out.old out.new result }
 {
-    if out.len() < 12 {
-        return Err(TooShort);
-    }
-    Ok(put_field(out, 0, Tag::Slip, &slip_content(verdict, steps)))
+    write_field(out, Slip { verdict, steps })
 }
 
-fn line_content(line: Line) -> [u8; 4]
-    ensures { result ≡ rule_number line.rule ∷ line.first ∷ line.second ∷ line.third ∷ [] }
+// The refusal's number, its layer and its place, of which four bytes are written.
+pub fn write_notice(out: &mut [u8], fault: Fault) -> Result<usize, TooShort>
+    ensures { Written (notice_bytes fault) out.old out.new result }
 {
-    [u8::from(line.rule), line.first, line.second, line.third]
+    write_field(out, fault)
 }
 
-fn put_lines(out: &mut [u8], start: usize, lines: &[Line]) -> usize
-    requires { start + length (lines_body lines.now) ≤ length out.old }
-    ensures end { result ≡ start + length (lines_body lines.now) }
-    ensures bytes { out.new ≡ over out.old start (lines_body lines.now) }
-{
-    let mut at = start;
-    for line in lines {
-        at = put_field(out, at, Tag::Line, &line_content(*line));
+// The verdict that rests on a paper.
+impl From<Paper<'_>> for Verdict {
+    ghost from_gives = { λ paper r. r ≡ paper_verdict paper };
+
+    fn from(paper: Paper<'_>) -> Verdict {
+        match paper {
+            Paper::Order(_) => Verdict::Order,
+            Paper::Opposed(_) => Verdict::Opposed,
+            Paper::Orphan(load) => Verdict::Orphan(load),
+        }
     }
-    at
 }
 
 impl Paper<'_> {
-    fn number(self) -> u8
-        ensures { result ≡ paper_number self.entry }
-    {
-        match self {
-            Paper::Order(_) => 1,
-            Paper::Opposed(_) => 2,
-            Paper::Orphan(_) => 3,
-        }
-    }
-
     fn body_len(self) -> usize
         ensures length { result ≡ length (paper_body self.entry) }
         ensures small { result + 10 < 2 ^ 64 }
@@ -159,15 +195,14 @@ impl Paper<'_> {
         }
     }
 
-    fn put_body(self, out: &mut [u8], at: usize) -> usize
-        requires { at + length (paper_body self) ≤ length out.old }
-        ensures end { result ≡ at + length (paper_body self.entry) }
-        ensures bytes { out.new ≡ over out.old at (paper_body self.entry) }
+    fn put_body(self, pen: &mut Pen<'_>)
+        requires { HasRoom pen.old (length (paper_body self)) }
+        ensures { Put pen.old pen.new (paper_body self.entry) }
     {
         match self {
-            Paper::Order(order) => put_field(out, at, Tag::Order, order),
-            Paper::Opposed(lines) => put_lines(out, at, lines),
-            Paper::Orphan(load) => put_field(out, at, Tag::Orphan, &[load]),
+            Paper::Order(order) => pen.put_field(Tag::Order, order),
+            Paper::Opposed(lines) => pen.write_all(lines),
+            Paper::Orphan(load) => pen.put_field(Tag::Orphan, &[load]),
         }
     }
 }
@@ -176,42 +211,14 @@ impl Paper<'_> {
 pub fn write_paper(out: &mut [u8], head: PaperHead, paper: Paper<'_>) -> Result<usize, TooShort>
     ensures { Written (paper_bytes (paper_number paper.entry) head.model head.clock head.records (paper_body paper.entry)) out.old out.new result }
 {
-    if out.len() < 10 + paper.body_len() {
-        return Err(TooShort);
-    }
-    let body = put_field(
-        out,
-        0,
+    check_room(out, 10 + paper.body_len())?;
+    let number = verdict_number(Some(Verdict::from(paper)));
+    let mut pen = Pen::over(out);
+    pen.put_field(
         Tag::PaperHead,
-        &[paper.number(), head.model, head.clock, head.records],
+        &[number, head.model, head.clock, head.records],
     );
-    let end = paper.put_body(out, body);
-    Ok(put_field(out, end, Tag::PaperEnd, &[]))
-}
-
-fn notice_content(fault: Fault) -> [u8; 6]
-    ensures { result ≡ refusal_number fault.refusal ∷ layer_number fault.layer ∷ digits 4 fault.place }
-{
-    let mut content = [0; 6];
-    put(
-        &mut content,
-        0,
-        &[u8::from(fault.refusal), u8::from(fault.layer)],
-    );
-    put(
-        &mut content,
-        2,
-        &((fault.place % 4294967296) as u32).to_be_bytes(),
-    );
-    content
-}
-
-// The refusal's number, its layer and its place, of which four bytes are written.
-pub fn write_notice(out: &mut [u8], fault: Fault) -> Result<usize, TooShort>
-    ensures { Written (notice_bytes fault) out.old out.new result }
-{
-    if out.len() < 9 {
-        return Err(TooShort);
-    }
-    Ok(put_field(out, 0, Tag::Notice, &notice_content(fault)))
+    paper.put_body(&mut pen);
+    pen.put_field(Tag::PaperEnd, &[]);
+    Ok(pen.written())
 }

@@ -1,22 +1,16 @@
-use Rattle.std.proofs.Common.{◌≡◌, ℕ, ◌+◌, List, [], ◌∷◌, length, sym, refl, ap, ◌∙◌, arith, length-append}
-use Rattle.std.proofs.lemmas.Bool.{leb-true, leb-false}
+use Rattle.std.proofs.Common.{◌+◌, ◌<◌, ◌++◌, [], length, rules, arith, length-append, ap}
 use Rattle.wire.specs.Bytes.{field, all_of, record_field}
-use Rattle.wire.specs.Written.{over}
-use Rattle.wire.proofs.Over.{records_long, written_three}
+use Rattle.wire.proofs.Over.{records_long}
+use Rattle.wire.proofs.Pens.{written, put_put}
 use Rattle.wire.proofs.writing.write_run.Goals as goal
 
-pub returns-then-not-run_fits : goal.returns-then-not-run_fits
-returns-then-not-run_fits c =
-    let rs = c.args.records.now in
-    let few = leb-false _ _ (sym c.if-not-run_fits.ensures) in
-    (omega (arith, few, length-append (all_of record_field rs) (field 3 []), records_long rs), refl)
+pub returns-in_err-check_room : goal.returns-in_err-check_room
+returns-in_err-check_room c = let h = c.in_err-check_room.ensures in let l = records_long c.args.records.now in let k = length-append (all_of record_field c.args.records.now) (field 3 []) in let few : length c.args.out.now < 6 + length (all_of record_field c.args.records.now ++ field 3 []) = omega (arith, l, k, h) in search (rules, few)
+
+pub put_field-requires-2 : goal.put_field-requires-2
+put_field-requires-2 c = omega (arith, records_long c.args.records.now, c.write_all.ensures.long, c.write_all.ensures.at, c.put_field.ensures.long, c.put_field.ensures.at, ap length c.over-pen.ensures.bytes)
 
 pub returns : goal.returns
 returns c =
-    let out : List ℕ = c.args.out.now in
     let rs = c.args.records.now in
-    let h = c.args.head in
-    let start : c.put_field-first.result ≡ 6 = c.put_field-first.ensures.end in
-    let second = c.put_records-end.ensures.bytes ∙ ap (λ k. over c.put_field-first.new.out k (all_of record_field rs)) start in
-    let end : 6 + length (all_of record_field rs) ≡ c.put_records-end.result = omega (arith, c.put_records-end.ensures.end, records_long rs) in
-    written_three out _ _ _ (field 1 (h.processors ∷ h.model ∷ h.clock ∷ [])) (all_of record_field rs) (field 3 []) 6 _ _ c.put_field-first.ensures.bytes refl second end c.put_field.ensures.bytes (omega arith) (omega (arith, records_long rs, leb-true _ _ (sym c.if-not-run_fits.ensures)))
+    written _ _ _ c.over-pen.ensures.start c.over-pen.ensures.bytes (put_put c.put_field.ensures (put_put c.write_all.ensures c.put_field-2.ensures)) (omega (arith, length-append (all_of record_field rs) (field 3 []), records_long rs)) c.written.ensures (search rules)
