@@ -7,6 +7,7 @@ use crate::stages::Stage;
 use memory::clocks::Clock;
 use memory::models::Model;
 use memory::records::Record;
+use memory::settings::Setting;
 
 mod calls;
 mod load;
@@ -16,8 +17,7 @@ mod write;
 // A case under a model and a clock. Its room for records is reserved when it is made, so that no call on it allocates.
 #[derive(Drop)]
 pub struct Case<M: Model, C: Clock> {
-    model: M,
-    clock: C,
+    setting: Setting<M, C>,
     processors: u8,
     records: Vec<Record>,
     stage: Stage,

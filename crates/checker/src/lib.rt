@@ -14,6 +14,7 @@ use case::cases::Case;
 use memory::clocks::{Clock, GlobalClock};
 use memory::limits::INPUT_LIMIT;
 use memory::models::{Godson, Model, Sc};
+use memory::settings::Setting;
 use std::alloc::{AllocError, Global};
 use wire::faults::RunFault;
 use wire::writing;
@@ -57,7 +58,7 @@ pub fn check<M: Model + Drop, C: Clock + Drop>(
     ensures bytes { IfOk result (λ v. v.items ≡ output M.Model.MARK C.Clock.MARK bytes.now) }
     ensures claims { is_ok result ≡ true → OutputClaims (setting (M.Model.orders model) (C.Clock.earlier clock) M.Model.MARK C.Clock.MARK) bytes.now }
 {
-    let mut case = Case::new(heap, model, clock)?;
+    let mut case = Case::new(heap, Setting { model, clock })?;
     let mut room = [0; OUTPUT_ROOM];
     let n = match case.load(bytes) {
         Ok(_) => write_verdict(&case, &mut room),

@@ -14,6 +14,7 @@ use memory::clocks::{Clock, GlobalClock};
 use memory::models::Model;
 use memory::records::Record;
 use memory::refusals::Fault;
+use memory::settings::Setting;
 use memory::verdicts::verdict_number;
 use std::io;
 
@@ -49,7 +50,11 @@ fn tell_setting(rt: &HostRuntime, model: u8, clock: u8) -> io::Result<()> {
 pub fn tell<M: Model + Drop>(rt: &HostRuntime, model: M, bytes: &[u8]) -> anyhow::Result<Outcome>
     ensures { IfOk result (λ o. o ≡ outcome_of (loading M.Model.MARK 1 (begun 1) bytes.now).answer) }
 {
-    let mut case = Case::new(rt.alloc(), model, GlobalClock)?;
+    let setting = Setting {
+        model,
+        clock: GlobalClock,
+    };
+    let mut case = Case::new(rt.alloc(), setting)?;
     tell_setting(rt, M::MARK, GlobalClock::MARK)?;
     match case.load(bytes) {
         Ok(_) => {

@@ -1,7 +1,8 @@
 // Making, opening, admitting and sealing.
 ghost use Rattle.std.specs.Prelude.{◌≡◌, IfOk};
 ghost use Rattle.memory.specs.Admission.{judgement};
-ghost use Rattle.memory.specs.Runs.{setting, run_of};
+ghost use Rattle.memory.specs.Runs.{run_of};
+ghost use Rattle.memory.specs.Settings.{setting_of};
 ghost use Rattle.case.specs.State.{opened as begun, case_fault};
 ghost use Rattle.case.specs.Calls.{opening, admitting, admit_by, numbered_by, sealing, sealed_verdict, sealed, AnswerClaims};
 ghost use Rattle.case.specs.Views.{view};
@@ -15,21 +16,21 @@ use memory::models::Model;
 use memory::reading::smallest_orphan;
 use memory::records::Entry;
 use memory::refusals::{Fault, Layer, Refusal};
+use memory::settings::Setting;
 use memory::verdicts::Verdict;
 use std::alloc::{AllocError, Global};
 
 impl<M: Model, C: Clock> Case<M, C> {
     // An open case of one processor; only this call can fail for want of memory.
-    pub fn new(heap: Global, model: M, clock: C) -> Result<Case<M, C>, AllocError>
+    pub fn new(heap: Global, setting: Setting<M, C>) -> Result<Case<M, C>, AllocError>
     where
         M: Drop,
         C: Drop,
-        ensures { IfOk result (λ c. (view c ≡ begun 1) × (c.model ≡ model) × (c.clock ≡ clock)) }
+        ensures { IfOk result (λ c. (view c ≡ begun 1) × (c.setting ≡ setting)) }
     {
         let records = Vec::with_capacity(heap, MOST_RECORDS)?;
         Ok(Case {
-            model,
-            clock,
+            setting,
             processors: 1,
             records,
             stage: Stage::Open,
@@ -52,8 +53,7 @@ impl<M: Model, C: Clock> Case<M, C> {
     pub fn open(&mut self, processors: u8) -> Result<(), Fault>
         ensures answer { result ≡ (opening (view self.old) processors).answer }
         ensures state { view self.new ≡ (opening (view self.old) processors).state }
-        ensures model { self.new.model ≡ self.old.model }
-        ensures clock { self.new.clock ≡ self.old.clock }
+        ensures setting { self.new.setting ≡ self.old.setting }
     {
         if processors < 1 || processors > MOST_PROCESSORS {
             return Err(self.fault(Refusal::Stranger));
@@ -69,8 +69,7 @@ impl<M: Model, C: Clock> Case<M, C> {
     pub(super) fn admit_lawful(&mut self, e: Entry) -> Result<u8, Refusal>
         ensures answer { result ≡ numbered_by (judgement self.old.processors self.old.records.items e) (view self.old) }
         ensures state { view self.new ≡ (admit_by (judgement self.old.processors self.old.records.items e) (view self.old)).state }
-        ensures model { self.new.model ≡ self.old.model }
-        ensures clock { self.new.clock ≡ self.old.clock }
+        ensures setting { self.new.setting ≡ self.old.setting }
     {
         let record = judge(self.processors, self.records.as_slice(), e)?;
         self.records.push_reserved(record);
@@ -81,8 +80,7 @@ impl<M: Model, C: Clock> Case<M, C> {
     pub fn admit(&mut self, e: Entry) -> Result<u8, Fault>
         ensures answer { result ≡ (admitting (view self.old) e).answer }
         ensures state { view self.new ≡ (admitting (view self.old) e).state }
-        ensures model { self.new.model ≡ self.old.model }
-        ensures clock { self.new.clock ≡ self.old.clock }
+        ensures setting { self.new.setting ≡ self.old.setting }
     {
         if let Some(refusal) = self.stage.refuses(Call::Admit) {
             return Err(self.fault(refusal));
@@ -109,8 +107,7 @@ impl<M: Model, C: Clock> Case<M, C> {
     pub(super) fn close(&mut self) -> Option<Verdict>
         ensures answer { result ≡ sealed_verdict self.old.records.items }
         ensures state { view self.new ≡ sealed (view self.old) }
-        ensures model { self.new.model ≡ self.old.model }
-        ensures clock { self.new.clock ≡ self.old.clock }
+        ensures setting { self.new.setting ≡ self.old.setting }
     {
         let verdict = self.verdict_sealed();
         self.stage = match verdict {
@@ -124,9 +121,8 @@ impl<M: Model, C: Clock> Case<M, C> {
     pub fn seal(&mut self) -> Result<Option<Verdict>, Fault>
         ensures answer { result ≡ (sealing (view self.old)).answer }
         ensures state { view self.new ≡ (sealing (view self.old)).state }
-        ensures claims { AnswerClaims (run_of (setting (M.Model.orders self.old.model) (C.Clock.earlier self.old.clock) M.Model.MARK C.Clock.MARK) (view self.old).records) result }
-        ensures model { self.new.model ≡ self.old.model }
-        ensures clock { self.new.clock ≡ self.old.clock }
+        ensures claims { AnswerClaims (run_of (setting_of M.Model C.Clock self.old.setting) (view self.old).records) result }
+        ensures setting { self.new.setting ≡ self.old.setting }
     {
         if let Some(refusal) = self.stage.refuses(Call::Seal) {
             return Err(self.fault(refusal));

@@ -1,6 +1,7 @@
 // Loading a run from its bytes.
 ghost use Rattle.std.specs.Prelude.{◌≡◌};
-ghost use Rattle.memory.specs.Runs.{setting, run_of};
+ghost use Rattle.memory.specs.Runs.{run_of};
+ghost use Rattle.memory.specs.Settings.{setting_of};
 ghost use Rattle.wire.specs.Fields.{record_field};
 ghost use Rattle.wire.specs.Seen.{shown, part_of, left};
 ghost use Rattle.wire.specs.declared.fields.Text.TheVariants.{Run};
@@ -23,8 +24,7 @@ impl<M: Model, C: Clock> Case<M, C> {
     fn load_record(&mut self, part: Part<'_>) -> Result<bool, RunFault>
         ensures turned { Turned (view self.old) (view self.new) (part_of record_field part.entry) (went_field result) }
         ensures gained { Gained (view self.old) (view self.new) (part_of record_field part.entry) (went_field result) }
-        ensures model { self.new.model ≡ self.old.model }
-        ensures clock { self.new.clock ≡ self.old.clock }
+        ensures setting { self.new.setting ≡ self.old.setting }
     {
         let entry = part.read::<Entry>()?;
         match self.admit_lawful(entry) {
@@ -40,8 +40,7 @@ impl<M: Model, C: Clock> Case<M, C> {
     fn load_field(&mut self, field: Field<'_>) -> Result<bool, RunFault>
         ensures turned { Turned (view self.old) (view self.new) (shown field.entry) (went_field result) }
         ensures gained { Gained (view self.old) (view self.new) (shown field.entry) (went_field result) }
-        ensures model { self.new.model ≡ self.old.model }
-        ensures clock { self.new.clock ≡ self.old.clock }
+        ensures setting { self.new.setting ≡ self.old.setting }
     {
         match field {
             Field::Record(part) => self.load_record(part),
@@ -59,8 +58,7 @@ impl<M: Model, C: Clock> Case<M, C> {
         ensures walked { Walked reader.old.bytes.now reader.old.at (view self.old) (left_by result reader.new.at reader.old.bytes.now) (view self.new) }
         ensures place { NotBefore reader.old.at result }
         ensures bytes { reader.new.bytes ≡ reader.old.bytes }
-        ensures model { self.new.model ≡ self.old.model }
-        ensures clock { self.new.clock ≡ self.old.clock }
+        ensures setting { self.new.setting ≡ self.old.setting }
     {
         loop {
             let field = reader.next()?;
@@ -75,8 +73,7 @@ impl<M: Model, C: Clock> Case<M, C> {
     fn begin(&mut self, head: RunHead) -> Result<(), RunFault>
         ensures answer { result ≡ begun_as (head_refusal M.Model.MARK C.Clock.MARK head) }
         ensures state { view self.new ≡ begun_state (head_refusal M.Model.MARK C.Clock.MARK head) head.processors (view self.old) }
-        ensures model { self.new.model ≡ self.old.model }
-        ensures clock { self.new.clock ≡ self.old.clock }
+        ensures setting { self.new.setting ≡ self.old.setting }
     {
         if !(head.model == M::MARK && head.clock == C::MARK) {
             return Err(RunFault::Content {
@@ -100,8 +97,7 @@ impl<M: Model, C: Clock> Case<M, C> {
         ensures headed { Headed M.Model.MARK C.Clock.MARK (view self.old) reader.old.bytes.now (view self.new) reader.new.at result }
         ensures bytes { reader.new.bytes ≡ reader.old.bytes }
         ensures text { reader.new.text ≡ reader.old.text }
-        ensures model { self.new.model ≡ self.old.model }
-        ensures clock { self.new.clock ≡ self.old.clock }
+        ensures setting { self.new.setting ≡ self.old.setting }
     {
         let Field::Head(part) = reader.next()? else {
             return Err(RunFault::Bytes(ByteFault { place: 0 }));
@@ -117,9 +113,8 @@ impl<M: Model, C: Clock> Case<M, C> {
         ensures answer { result ≡ (loading M.Model.MARK C.Clock.MARK (view self.old) bytes.now).answer }
         ensures state { view self.new ≡ (loading M.Model.MARK C.Clock.MARK (view self.old) bytes.now).state }
         ensures kept { Kept M.Model.MARK C.Clock.MARK (view self.old) (view self.new) bytes.now result }
-        ensures claims { AnswerClaims (run_of (setting (M.Model.orders self.old.model) (C.Clock.earlier self.old.clock) M.Model.MARK C.Clock.MARK) (view self.new).records) result }
-        ensures model { self.new.model ≡ self.old.model }
-        ensures clock { self.new.clock ≡ self.old.clock }
+        ensures claims { AnswerClaims (run_of (setting_of M.Model C.Clock self.old.setting) (view self.new).records) result }
+        ensures setting { self.new.setting ≡ self.old.setting }
     {
         let mut reader = Reader::over(Text::Run, bytes);
         self.load_head(&mut reader)?;

@@ -22,6 +22,5 @@ returns-in-Err g c =
     record {
       answer = ap Err (c.fault-in-Err.ensures ∙ ap (λ t. case_fault t x) same) ∙ sym (ap (λ o. o.answer) out);
       state = same ∙ sym (ap (λ o. o.state) out);
-      model = c.admit_lawful.ensures.model;
-      clock = c.admit_lawful.ensures.clock;
+      setting = c.admit_lawful.ensures.setting;
     }

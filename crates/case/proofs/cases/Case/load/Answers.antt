@@ -1,7 +1,8 @@
 use Rattle.std.proofs.Common.{◌≡◌, ℕ, ◌<◌, ◌≤◌, List, [], ◌++◌, length, drop, Ok, Err, sym, ap, ◌∙◌, subst}
 use Rattle.std.proofs.lemmas.Result.{err_from_is_err_and}
 use Rattle.memory.specs.Legal.{Claims}
-use Rattle.memory.specs.Runs.{setting, run_of}
+use Rattle.memory.specs.Runs.{run_of}
+use Rattle.memory.specs.Settings.{setting_of}
 use Rattle.wire.specs.declared.faults.RunFault.{RunFault}
 use Rattle.wire.specs.declared.faults.RunFault.TheVariants.{Bytes}
 use Rattle.wire.specs.Bytes.{field, run_bytes}
@@ -41,8 +42,7 @@ returns-in_err-load_fields g c =
       state = sym (ap (λ o. o.state) all.0);
       kept = subst (Kept m k s u bs) (sym is) all.1;
       claims = subst (AnswerClaims _) (sym is) tt;
-      model = told.model ∙ passed.model;
-      clock = told.clock ∙ passed.clock;
+      setting = told.setting ∙ passed.setting;
     }
 
 pub returns-in_err-finish : goal.returns-in_err-finish
@@ -72,8 +72,7 @@ returns-in_err-finish g c =
       state = sym (ap (λ o. o.state) all.0);
       kept = subst (Kept m k s u bs) (sym is) all.1;
       claims = subst (AnswerClaims _) (sym is) tt;
-      model = told.model ∙ passed.model;
-      clock = told.clock ∙ passed.clock;
+      setting = told.setting ∙ passed.setting;
     }
 
 pub returns : goal.returns
@@ -97,12 +96,11 @@ returns g c =
     let all = loads m k s bs t reader.at head u to fields walked end in
     let closed = c.close.ensures in
     let self = c.args.self.now in
-    let S = setting (g.M.Model.orders self.model) (g.C.Clock.earlier self.clock) g.M.Model.MARK g.C.Clock.MARK in
+    let S = setting_of g.M.Model g.C.Clock self.setting in
     record {
       answer = ap Ok closed.answer ∙ sym (ap (λ o. o.answer) all.0);
       state = closed.state ∙ sym (ap (λ o. o.state) all.0);
       claims = subst (λ (x : State). Claims (run_of S x.records) [] c.close.result) (sym closed.state) (subst (Claims (run_of S u.records) []) (sym closed.answer) (sealed_claims S u.records));
       kept = ap (λ (x : State). run_bytes x.processors m k x.records) closed.state ∙ all.1;
-      model = closed.model ∙ told.model ∙ passed.model;
-      clock = closed.clock ∙ told.clock ∙ passed.clock;
+      setting = closed.setting ∙ told.setting ∙ passed.setting;
     }

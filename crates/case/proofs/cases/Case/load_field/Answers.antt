@@ -12,6 +12,5 @@ returns-in-Record g c =
     record {
       turned = subst (λ f. Turned s t (shown f) (went_field c.load_record.result)) (sym c.in-Record.is) told.turned;
       gained = subst (λ f. Gained s t (shown f) (went_field c.load_record.result)) (sym c.in-Record.is) told.gained;
-      model = told.model;
-      clock = told.clock;
+      setting = told.setting;
     }

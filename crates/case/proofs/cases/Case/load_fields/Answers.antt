@@ -34,8 +34,7 @@ returns-in_err-field g c =
       walked = subst (λ r. Walked bs reader.at s (left_by r after.at bs) t) (sym is) (subst (λ n. Walked bs reader.at s (drop n bs) t) place w);
       place = subst (NotBefore reader.at) (sym is) (subst (λ n. reader.at ≤ n) place inv.2.forth);
       bytes = read.bytes ∙ inv.0;
-      model = inv.3;
-      clock = inv.4;
+      setting = inv.3;
     }
 
 pub returns-in_err-more : goal.returns-in_err-more
@@ -60,8 +59,7 @@ returns-in_err-more g c =
       walked = subst (λ r. Walked bs reader.at s (left_by r after.at bs) u) (sym is) all.1;
       place = subst (NotBefore reader.at) (sym is) all.2;
       bytes = read.bytes ∙ inv.0;
-      model = told.model ∙ inv.3;
-      clock = told.clock ∙ inv.4;
+      setting = told.setting ∙ inv.3;
     }
 
 pub returns-then-not-more : goal.returns-then-not-more
@@ -80,7 +78,7 @@ returns-then-not-more g c =
     let stop = c.if-not-more.true in
     let f : Shown = shown c.in_ok-field.field in
     let all = at_end bs reader.at s before.at t inv.2 f after.at k u (subst (λ b. Turned t u f (went_field (Ok b))) stop told.turned) (subst (λ b. Gained t u f (went_field (Ok b))) stop told.gained) in
-    record { result = all.0; walked = all.1; place = tt; bytes = read.bytes ∙ inv.0; model = told.model ∙ inv.3; clock = told.clock ∙ inv.4 }
+    record { result = all.0; walked = all.1; place = tt; bytes = read.bytes ∙ inv.0; setting = told.setting ∙ inv.3 }
 
 pub loop-field-preserved : goal.loop-field-preserved
 loop-field-preserved g c =
@@ -98,4 +96,4 @@ loop-field-preserved g c =
     let go = c.if-not-more.false in
     let f : Shown = shown c.in_ok-field.field in
     let on = progress_more bs reader.at s before.at t inv.2 f after.at k u (subst (λ b. Turned t u f (went_field (Ok b))) go told.turned) (subst (λ b. Gained t u f (went_field (Ok b))) go told.gained) in
-    (read.bytes ∙ inv.0, read.text ∙ inv.1, on, told.model ∙ inv.3, told.clock ∙ inv.4)
+    (read.bytes ∙ inv.0, read.text ∙ inv.1, on, told.setting ∙ inv.3)
