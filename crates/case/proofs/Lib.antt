@@ -2,4 +2,3 @@ pub mod Loads
 pub mod Progress
 pub mod Reload
 pub mod Sealed
-pub mod Turns

@@ -1,5 +1,7 @@
 -- What the private parts of loading promise one another: a field, the fields, the head. Assumes nothing.
-use Rattle.std.specs.Prelude.{◌≡◌, ℕ, ◌+◌, ◌≤◌, Bool, true, false, List, [], ◌++◌, length, drop, Some, None, Ok, Err, Option, Result}
+use Rattle.std.specs.Prelude.{◌≡◌, ℕ, ◌+◌, ◌≤◌, List, [], ◌++◌, length, drop, Some, None, Ok, Err, Option, Result}
+use Rattle.std.specs.declared.ops.ControlFlow.{ControlFlow}
+use Rattle.std.specs.declared.ops.ControlFlow.TheVariants.{Continue, Break}
 use Rattle.memory.specs.declared.records.Record.{Record}
 use Rattle.memory.specs.declared.refusals.Refusal.{Refusal}
 use Rattle.wire.specs.declared.faults.RunFault.{RunFault}
@@ -28,10 +30,14 @@ Gained s t f onward = (r : Record) × (t ≡ with_record s r) × (field (tag_of 
 Gained s t f ended = (t ≡ s) × (field (tag_of Run f.sort) f.content ≡ field run_end_tag [])
 Gained s t f (fell e) = (t ≡ s) × (place_of e ≡ f.place)
 
--- as the code answers it: true where the next field follows, false at the end
-abbrev pub went_field : Result Bool RunFault → Went
-went_field (Ok true) = onward
-went_field (Ok false) = ended
+-- as the code answers it, of a record field and of any field
+abbrev pub went_record : Result (Unit {0}) RunFault → Went
+went_record (Ok u) = onward
+went_record (Err e) = fell e
+
+abbrev pub went_field : Result (ControlFlow (Unit {0}) (Unit {0})) RunFault → Went
+went_field (Ok (Continue u)) = onward
+went_field (Ok (Break u)) = ended
 went_field (Err e) = fell e
 
 -- a case that was s and is t has gained the records that the bytes from a place on say, before those that are left

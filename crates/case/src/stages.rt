@@ -1,5 +1,6 @@
 // The stages of a case, and the calls that a stage lets through.
 ghost use Rattle.std.specs.Prelude.{◌≡◌};
+ghost use Rattle.std.specs.Result.{result_err};
 ghost use Rattle.case.specs.State.{permits, verdict_at};
 
 use memory::refusals::Refusal;
@@ -19,14 +20,14 @@ pub enum Call {
 }
 
 impl Stage {
-    // Why the stage does not let the call through, if it does not.
-    pub fn refuses(self, call: Call) -> Option<Refusal>
-        ensures { result ≡ permits self call }
+    // Lets the call through, or says why the stage does not.
+    pub fn permits(self, call: Call) -> Result<(), Refusal>
+        ensures { result_err result ≡ permits self call }
     {
         match (self, call) {
-            (Stage::Open, Call::Admit | Call::Seal) => None,
-            (Stage::Sealed, Call::Admit | Call::Seal) => Some(Refusal::Sealed),
-            (Stage::Decided(_), Call::Admit | Call::Seal) => Some(Refusal::Decided),
+            (Stage::Open, Call::Admit | Call::Seal) => Ok(()),
+            (Stage::Sealed, Call::Admit | Call::Seal) => Err(Refusal::Sealed),
+            (Stage::Decided(_), Call::Admit | Call::Seal) => Err(Refusal::Decided),
         }
     }
 

@@ -71,7 +71,7 @@ impl<M: Model, C: Clock> Case<M, C> {
         ensures state { view self.new ≡ (admit_by (judgement self.old.processors self.old.records.items e) (view self.old)).state }
         ensures setting { self.new.setting ≡ self.old.setting }
     {
-        let record = judge(self.processors, self.records.as_slice(), e)?;
+        let record = judge(self.processors, &self.records, e)?;
         self.records.push_reserved(record);
         Ok(self.records.len() as u8)
     }
@@ -82,13 +82,10 @@ impl<M: Model, C: Clock> Case<M, C> {
         ensures state { view self.new ≡ (admitting (view self.old) e).state }
         ensures setting { self.new.setting ≡ self.old.setting }
     {
-        if let Some(refusal) = self.stage.refuses(Call::Admit) {
-            return Err(self.fault(refusal));
-        }
-        match self.admit_lawful(e) {
-            Ok(number) => Ok(number),
-            Err(refusal) => Err(self.fault(refusal)),
-        }
+        self.stage
+            .permits(Call::Admit)
+            .map_err(|refusal| self.fault(refusal))?;
+        self.admit_lawful(e).map_err(|refusal| self.fault(refusal))
     }
 
     // The verdict of the records as they are.
@@ -98,10 +95,7 @@ impl<M: Model, C: Clock> Case<M, C> {
         if self.records.is_empty() {
             return Some(Verdict::Order);
         }
-        match smallest_orphan(self.records.as_slice()) {
-            Some(load) => Some(Verdict::Orphan(load as u8)),
-            None => None,
-        }
+        smallest_orphan(&self.records).map(|load| Verdict::Orphan(load as u8))
     }
 
     pub(super) fn close(&mut self) -> Option<Verdict>
@@ -110,10 +104,7 @@ impl<M: Model, C: Clock> Case<M, C> {
         ensures setting { self.new.setting ≡ self.old.setting }
     {
         let verdict = self.verdict_sealed();
-        self.stage = match verdict {
-            None => Stage::Sealed,
-            Some(verdict) => Stage::Decided(verdict),
-        };
+        self.stage = verdict.map_or(Stage::Sealed, Stage::Decided);
         verdict
     }
 
@@ -124,9 +115,9 @@ impl<M: Model, C: Clock> Case<M, C> {
         ensures claims { AnswerClaims (run_of (setting_of M.Model C.Clock self.old.setting) (view self.old).records) result }
         ensures setting { self.new.setting ≡ self.old.setting }
     {
-        if let Some(refusal) = self.stage.refuses(Call::Seal) {
-            return Err(self.fault(refusal));
-        }
+        self.stage
+            .permits(Call::Seal)
+            .map_err(|refusal| self.fault(refusal))?;
         Ok(self.close())
     }
 }

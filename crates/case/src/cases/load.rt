@@ -7,7 +7,7 @@ ghost use Rattle.wire.specs.Seen.{shown, part_of, left};
 ghost use Rattle.wire.specs.declared.fields.Text.TheVariants.{Run};
 ghost use Rattle.case.specs.Calls.{AnswerClaims};
 ghost use Rattle.case.specs.Loading.{load_fields, ended_as, head_refusal, loading, Kept};
-ghost use Rattle.case.specs.Parts.{Turned, Gained, went_field, told_by, left_by, Walked, NotBefore, begun_as, begun_state, Headed};
+ghost use Rattle.case.specs.Parts.{Turned, Gained, went_record, went_field, told_by, left_by, Walked, NotBefore, begun_as, begun_state, Headed};
 ghost use Rattle.case.specs.Views.{view};
 
 use crate::cases::Case;
@@ -16,35 +16,35 @@ use memory::models::Model;
 use memory::records::Entry;
 use memory::refusals::Refusal;
 use memory::verdicts::Verdict;
+use std::ops::ControlFlow;
 use wire::faults::{ByteFault, RunFault};
 use wire::fields::{Field, Part, Reader, RunHead, Text};
 
 impl<M: Model, C: Clock> Case<M, C> {
-    // A record field: its entry is admitted, and the next field follows.
-    fn load_record(&mut self, part: Part<'_>) -> Result<bool, RunFault>
-        ensures turned { Turned (view self.old) (view self.new) (part_of record_field part.entry) (went_field result) }
-        ensures gained { Gained (view self.old) (view self.new) (part_of record_field part.entry) (went_field result) }
+    // A record field: its entry is admitted.
+    fn load_record(&mut self, part: Part<'_>) -> Result<(), RunFault>
+        ensures turned { Turned (view self.old) (view self.new) (part_of record_field part.entry) (went_record result) }
+        ensures gained { Gained (view self.old) (view self.new) (part_of record_field part.entry) (went_record result) }
         ensures setting { self.new.setting ≡ self.old.setting }
     {
         let entry = part.read::<Entry>()?;
-        match self.admit_lawful(entry) {
-            Ok(_) => Ok(true),
-            Err(refusal) => Err(RunFault::Content {
+        self.admit_lawful(entry)
+            .map_err(|refusal| RunFault::Content {
                 refusal,
                 place: part.place,
-            }),
-        }
+            })?;
+        Ok(())
     }
 
-    // A field behind the head: true where a record was admitted, false at the end.
-    fn load_field(&mut self, field: Field<'_>) -> Result<bool, RunFault>
+    // A field behind the head: the next follows where a record was admitted, and none at the end.
+    fn load_field(&mut self, field: Field<'_>) -> Result<ControlFlow<()>, RunFault>
         ensures turned { Turned (view self.old) (view self.new) (shown field.entry) (went_field result) }
         ensures gained { Gained (view self.old) (view self.new) (shown field.entry) (went_field result) }
         ensures setting { self.new.setting ≡ self.old.setting }
     {
         match field {
-            Field::Record(part) => self.load_record(part),
-            Field::End { .. } => Ok(false),
+            Field::Record(part) => self.load_record(part).map(ControlFlow::Continue),
+            Field::End { .. } => Ok(ControlFlow::Break(())),
             Field::Head(part) | Field::Line(part) | Field::Order(part) | Field::Orphan(part) => Err(
                 RunFault::Bytes(ByteFault { place: part.place }),
             ),
@@ -60,13 +60,8 @@ impl<M: Model, C: Clock> Case<M, C> {
         ensures bytes { reader.new.bytes ≡ reader.old.bytes }
         ensures setting { self.new.setting ≡ self.old.setting }
     {
-        loop {
-            let field = reader.next()?;
-            let more = self.load_field(field)?;
-            if !more {
-                return Ok(());
-            }
-        }
+        while self.load_field(reader.next()?)?.is_continue() {}
+        Ok(())
     }
 
     // The marks of the head, then its number of processors; the case then begins anew.
@@ -81,13 +76,11 @@ impl<M: Model, C: Clock> Case<M, C> {
                 place: 0,
             });
         }
-        match self.open(head.processors) {
-            Ok(()) => Ok(()),
-            Err(fault) => Err(RunFault::Content {
+        self.open(head.processors)
+            .map_err(|fault| RunFault::Content {
                 refusal: fault.refusal,
                 place: 0,
-            }),
-        }
+            })
     }
 
     // The first field; one that is no head ends the reading there.

@@ -16,18 +16,12 @@ impl<M: Model, C: Clock> Case<M, C> {
         self.processors
     }
 
-    fn admitted(&self) -> &[Record]
-        ensures { result.now ≡ (view self.now).records }
-    {
-        self.records.as_slice()
-    }
-
     // The admitted records; they keep the rules of a run, whatever calls came before.
     pub fn records(&self) -> &[Record]
         ensures value { result.now ≡ (view self.now).records }
         ensures lawful { Lawful (view self.now).processors result.now }
     {
-        self.admitted()
+        self.records.as_slice()
     }
 
     pub fn stage(&self) -> Stage

@@ -17,36 +17,25 @@ use wire::writing;
 use wire::writing::{Paper, PaperHead};
 
 impl<M: Model, C: Clock> Case<M, C> {
-    fn put_run(&self, out: &mut [u8]) -> Result<usize, Fault>
-        ensures { Wrote (view self.now) (run_in M.Model.MARK C.Clock.MARK (view self.now)) out.old out.new result }
+    // The run, at any stage. It loads, in any case of this model and clock, as the same processors and records.
+    pub fn write_run(&self, out: &mut [u8]) -> Result<usize, Fault>
+        ensures wrote { Wrote (view self.now) (run_in M.Model.MARK C.Clock.MARK (view self.now)) out.old out.new result }
+        ensures reloads { (before : State) → Reloads M.Model.MARK C.Clock.MARK before (view self.now) (run_in M.Model.MARK C.Clock.MARK (view self.now)) }
     {
         let head = RunHead {
             processors: self.processors,
             model: M::MARK,
             clock: C::MARK,
         };
-        match writing::write_run(out, head, self.records.as_slice()) {
-            Ok(n) => Ok(n),
-            Err(_) => Err(self.fault(Refusal::Short)),
-        }
-    }
-
-    // The run, at any stage. It loads, in any case of this model and clock, as the same processors and records.
-    pub fn write_run(&self, out: &mut [u8]) -> Result<usize, Fault>
-        ensures wrote { Wrote (view self.now) (run_in M.Model.MARK C.Clock.MARK (view self.now)) out.old out.new result }
-        ensures reloads { (before : State) → Reloads M.Model.MARK C.Clock.MARK before (view self.now) (run_in M.Model.MARK C.Clock.MARK (view self.now)) }
-    {
-        self.put_run(out)
+        writing::write_run(out, head, &self.records).map_err(|_| self.fault(Refusal::Short))
     }
 
     // The verdict and the total of steps, at any stage.
     pub fn write_slip(&self, out: &mut [u8]) -> Result<usize, Fault>
         ensures { Wrote (view self.now) (slip_in (view self.now)) out.old out.new result }
     {
-        match writing::write_slip(out, self.stage.verdict(), self.steps) {
-            Ok(n) => Ok(n),
-            Err(_) => Err(self.fault(Refusal::Short)),
-        }
+        let verdict = self.stage.verdict();
+        writing::write_slip(out, verdict, self.steps).map_err(|_| self.fault(Refusal::Short))
     }
 
     fn put_paper(&self, out: &mut [u8], paper: Paper<'_>) -> Result<usize, Fault>
@@ -57,10 +46,7 @@ impl<M: Model, C: Clock> Case<M, C> {
             clock: C::MARK,
             records: self.records.len() as u8,
         };
-        match writing::write_paper(out, head, paper) {
-            Ok(n) => Ok(n),
-            Err(_) => Err(self.fault(Refusal::Short)),
-        }
+        writing::write_paper(out, head, paper).map_err(|_| self.fault(Refusal::Short))
     }
 
     // The paper, where the verdict has one.

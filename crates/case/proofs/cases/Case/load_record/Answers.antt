@@ -1,17 +1,9 @@
-use Rattle.case.specs.Views.{view}
-use Rattle.case.proofs.Turns.{admitted, unlawful}
+use Rattle.std.proofs.Common.{arith}
+use Rattle.std.proofs.lemmas.Grind.{common_steps}
+use Rattle.std.proofs.lemmas.Result.{err_from_is_err_and}
 use Rattle.case.proofs.cases.Case.load_record.Goals as goal
 
-pub returns-in-Ok : goal.returns-in-Ok
-returns-in-Ok g c =
-    let part = c.args.part in
-    let says = c.in_ok-entry.ensures in
-    let both = admitted (view c.args.self.now) (view c.admit_lawful.new.self) part.place part.content.now c.in_ok-entry.entry says.value says.back _ c.in-Ok.ensures.answer c.admit_lawful.ensures.state in
-    record { turned = both.0; gained = both.1; setting = c.admit_lawful.ensures.setting }
-
-pub returns-in-Err : goal.returns-in-Err
-returns-in-Err g c =
-    let part = c.args.part in
-    let says = c.in_ok-entry.ensures in
-    let both = unlawful (view c.args.self.now) (view c.admit_lawful.new.self) part.place part.content.now c.in_ok-entry.entry says.value says.back c.in-Err.refusal c.in-Err.ensures.answer c.admit_lawful.ensures.state in
-    record { turned = both.0; gained = both.1; setting = c.admit_lawful.ensures.setting }
+pub returns-in_err-map_err : goal.returns-in_err-map_err
+returns-in_err-map_err g c =
+    let p = err_from_is_err_and c.from_residual-in_err-map_err.result c.from_residual-in_err-map_err.ensures.1 in
+    rw (p.1, p.2) record { turned = λ rest. grind (arith, common_steps); gained = grind (arith, common_steps); setting = c.admit_lawful.ensures.setting }
