@@ -7,3 +7,6 @@ pub returns-in_err-map_err : goal.returns-in_err-map_err
 returns-in_err-map_err g c =
     let p = err_from_is_err_and c.from_residual-in_err-map_err.result c.from_residual-in_err-map_err.ensures.1 in
     rw (p.1, p.2) record { turned = λ rest. grind (arith, common_steps); gained = grind (arith, common_steps); setting = c.admit_lawful.ensures.setting }
+
+pub returns-clause-gained : goal.returns-clause-gained
+returns-clause-gained g c = grind (arith, common_steps)
