@@ -2,13 +2,13 @@
 use Rattle.std.specs.Prelude.{◌≡◌, ℕ, ◌<◌, ◌≤◌, Bool, List, [], ◌∷◌, ◌++◌, length, Some, None, Ok, Err, vec_items, Option, Result}
 use Rattle.memory.specs.declared.models.Model as model
 use Rattle.memory.specs.declared.clocks.Clock as clock
-use Rattle.memory.specs.declared.kinds.Kind.{Kind}
 use Rattle.memory.specs.declared.lines.Line.{Line}
 use Rattle.memory.specs.declared.records.Record.{Record}
 use Rattle.memory.specs.declared.refusals.Refusal.{Refusal}
 use Rattle.memory.specs.declared.refusals.Refusal.TheVariants.{Full}
 use Rattle.memory.specs.Limits.{most_records}
-use Rattle.memory.specs.Runs.{Setting, setting, Run, run_of}
+use Rattle.memory.specs.Runs.{Setting, Run, run_of}
+use Rattle.memory.specs.Settings.{setting_of}
 use Rattle.inference.specs.declared.lines.Lines.{Lines}
 use Rattle.inference.specs.declared.lines.Listed.{Listed}
 use Rattle.inference.specs.declared.premises.Premises.{Premises}
@@ -27,12 +27,12 @@ module _ {M C : Type 0} {g : model.Ghosts M} {h : clock.Ghosts C} where
   Numbers p a = (0 < a) × (a ≤ length (records_in p))
 
   -- the model and the clock, by what models and clocks of their kinds say, and by their marks
-  abbrev pub setting_in : (M → Kind → Kind → Bool → Bool) → (C → ℕ → ℕ → ℕ → ℕ → Bool) → ℕ → ℕ → Premises M C g h → Setting
-  setting_in orders earlier m c p = setting (orders p.model.now) (earlier p.clock.now) m c
+  abbrev pub setting_in : Premises M C g h → Setting
+  setting_in p = setting_of g h p.setting.now
 
   -- the run that the records make under them
-  abbrev pub run_in : (M → Kind → Kind → Bool → Bool) → (C → ℕ → ℕ → ℕ → ℕ → Bool) → ℕ → ℕ → Premises M C g h → Run
-  run_in orders earlier m c p = run_of (setting_in orders earlier m c p) (records_in p)
+  abbrev pub run_in : Premises M C g h → Run
+  run_in p = run_of (setting_in p) (records_in p)
 
 abbrev pub lines_of : Lines → List Line
 lines_of l = vec_items l.items

@@ -6,6 +6,7 @@ use memory::clocks::Clock;
 use memory::lines::Line;
 use memory::models::Model;
 use memory::records::Record;
+use memory::settings::Setting;
 
 mod make;
 mod next;
@@ -14,8 +15,7 @@ mod rules;
 // The records of a run under a model and a clock, and the lines listed so far.
 #[derive(Drop)]
 pub struct Premises<'a, M: Model, C: Clock> {
-    model: &'a M,
-    clock: &'a C,
+    setting: &'a Setting<M, C>,
     records: &'a [Record],
     lines: &'a [Line],
     ghost few: { length records.now ≤ most_records },

@@ -8,12 +8,28 @@ use memory::lines::{Line, Rule};
 use memory::models::{Godson, Model, Sc};
 use memory::records::Record;
 use memory::refusals::Refusal;
+use memory::settings::Setting;
 use std::process::Abort;
 use std::test::Fail;
 use wire::writing::{Paper, PaperHead, write_paper};
 
 // More lines than any run has.
 const ALL: u64 = u64::MAX;
+
+const SC: Setting<Sc, GlobalClock> = Setting {
+    model: Sc,
+    clock: GlobalClock,
+};
+
+const SC_NO_CLOCK: Setting<Sc, NoClock> = Setting {
+    model: Sc,
+    clock: NoClock,
+};
+
+const GODSON: Setting<Godson, GlobalClock> = Setting {
+    model: Godson,
+    clock: GlobalClock,
+};
 
 // A line's rule, first, second and third.
 type Numbers = (u8, u8, u8, u8);
@@ -43,14 +59,13 @@ fn listed(r: Result<Listed, Refusal>) -> Result<(u64, bool), u8> {
 fn list_all<M: Model, C: Clock>(
     rt: &impl Abort,
     lines: &mut Lines,
-    model: &M,
-    clock: &C,
+    setting: &Setting<M, C>,
     records: &[Record],
     rows: &[Numbers],
     opposed: bool,
 ) {
     lines.clear();
-    let answer = listed(lines.infer(model, clock, records, ALL));
+    let answer = listed(lines.infer(setting, records, ALL));
     assert_eq!(rt; answer, Ok((rows.len() as u64, opposed)));
     are_lines(rt, lines, rows);
 }
@@ -91,7 +106,7 @@ fn the_message_run_has_six_lines_and_their_paper_is_these_bytes(
     rt: HostRuntime,
 ) -> Result<(), Fail> {
     let mut lines = Lines::new(rt.alloc())?;
-    list_all(&rt, &mut lines, &Sc, &GlobalClock, &sending(), &SENT, true);
+    list_all(&rt, &mut lines, &SC, &sending(), &SENT, true);
     let head = PaperHead {
         model: 1,
         clock: 1,
@@ -129,10 +144,7 @@ fn lines_listed_in_pieces_are_the_same(rt: HostRuntime) -> Result<(), Fail> {
         (2, (2, false)),
         (100, (3, true)),
     ] {
-        assert_eq!(rt;
-            listed(lines.infer(&Sc, &GlobalClock, &sending(), k)),
-            Ok(want)
-        );
+        assert_eq!(rt; listed(lines.infer(&SC, &sending(), k)), Ok(want));
     }
     are_lines(&rt, &lines, &SENT);
     Ok(())
@@ -150,17 +162,9 @@ fn under_godson_the_message_run_has_six_other_lines(rt: HostRuntime) -> Result<(
         (7, 4, 3, 1),
     ];
     let mut lines = Lines::new(rt.alloc())?;
-    list_all(
-        &rt,
-        &mut lines,
-        &Godson,
-        &GlobalClock,
-        &sending(),
-        &want,
-        false,
-    );
+    list_all(&rt, &mut lines, &GODSON, &sending(), &want, false);
     assert_eq!(rt;
-        listed(lines.infer(&Godson, &GlobalClock, &sending(), ALL)),
+        listed(lines.infer(&GODSON, &sending(), ALL)),
         Ok((0, false))
     );
     Ok(())
@@ -217,16 +221,8 @@ fn a_load_of_a_stale_value_is_opposed_only_where_the_clock_speaks(
     let stale = &RECORDS[0..3];
     let want = [(1, 1, 2, 0), (1, 1, 3, 0), (1, 2, 3, 0), (5, 2, 1, 3)];
     let mut lines = Lines::new(rt.alloc())?;
-    list_all(&rt, &mut lines, &Sc, &GlobalClock, stale, &want, true);
-    list_all(
-        &rt,
-        &mut lines,
-        &Sc,
-        &NoClock,
-        stale,
-        &[(3, 1, 3, 0)],
-        false,
-    );
+    list_all(&rt, &mut lines, &SC, stale, &want, true);
+    list_all(&rt, &mut lines, &SC_NO_CLOCK, stale, &[(3, 1, 3, 0)], false);
     Ok(())
 }
 
@@ -245,20 +241,11 @@ fn the_clock_lists_a_line_only_where_a_commit_is_below_an_enter(
         ..touching
     };
     let mut lines = Lines::new(rt.alloc())?;
+    list_all(&rt, &mut lines, &SC, &[first, touching], &[], false);
     list_all(
         &rt,
         &mut lines,
-        &Sc,
-        &GlobalClock,
-        &[first, touching],
-        &[],
-        false,
-    );
-    list_all(
-        &rt,
-        &mut lines,
-        &Sc,
-        &GlobalClock,
+        &SC,
         &[first, later],
         &[(1, 1, 2, 0)],
         false,
@@ -277,10 +264,7 @@ fn lines_go_on_behind_more_records_and_are_never_sorted_again(rt: HostRuntime) -
     let mut lines = Lines::new(rt.alloc())?;
     for (n, count) in [(2usize, 1), (3, 2), (4, 3)] {
         let first = &records[0..n];
-        assert_eq!(rt;
-            listed(lines.infer(&Sc, &GlobalClock, first, ALL)),
-            Ok((count, false))
-        );
+        assert_eq!(rt; listed(lines.infer(&SC, first, ALL)), Ok((count, false)));
     }
     // a line of a smaller rule comes behind those that were listed
     let want = [
@@ -306,7 +290,7 @@ fn a_load_comes_before_the_store_that_overwrites_what_it_reads(
     ];
     let want = [(2, 1, 2, 0), (3, 1, 3, 0), (6, 3, 2, 0)];
     let mut lines = Lines::new(rt.alloc())?;
-    list_all(&rt, &mut lines, &Sc, &GlobalClock, &records, &want, false);
+    list_all(&rt, &mut lines, &SC, &records, &want, false);
     Ok(())
 }
 
@@ -334,7 +318,7 @@ fn are_all_pairs(rt: &impl Abort, lines: &[Line]) {
 fn twenty_loads_of_one_processor_have_a_line_for_every_pair(rt: HostRuntime) -> Result<(), Fail> {
     let mut lines = Lines::new(rt.alloc())?;
     assert_eq!(rt;
-        listed(lines.infer(&Sc, &GlobalClock, &[record(0, Kind::Load, 16, 0); 20], ALL)),
+        listed(lines.infer(&SC, &[record(0, Kind::Load, 16, 0); 20], ALL)),
         Ok((190, false))
     );
     are_all_pairs(&rt, lines.as_slice());
@@ -346,22 +330,19 @@ fn over_more_than_sixty_four_records_nothing_is_listed(rt: HostRuntime) -> Resul
     let records = [record(0, Kind::Load, 16, 0); 65];
     let mut lines = Lines::new(rt.alloc())?;
     assert_eq!(rt;
-        listed(lines.infer(&Sc, &GlobalClock, &records[0..2], ALL)),
+        listed(lines.infer(&SC, &records[0..2], ALL)),
         Ok((1, false))
     );
-    assert_eq!(rt;
-        listed(lines.infer(&Sc, &GlobalClock, &records, ALL)),
-        Err(6)
-    );
-    assert_eq!(rt; listed(lines.infer(&Sc, &GlobalClock, &records, 0)), Err(6));
+    assert_eq!(rt; listed(lines.infer(&SC, &records, ALL)), Err(6));
+    assert_eq!(rt; listed(lines.infer(&SC, &records, 0)), Err(6));
     are_lines(&rt, &lines, &[(2, 1, 2, 0)]);
     assert_eq!(rt;
-        listed(lines.infer(&Sc, &GlobalClock, &records[0..64], 2)),
+        listed(lines.infer(&SC, &records[0..64], 2)),
         Ok((2, false))
     );
     are_lines(&rt, &lines, &[(2, 1, 2, 0), (2, 1, 3, 0), (2, 1, 4, 0)]);
-    assert!(rt; Premises::new(&Sc, &GlobalClock, &records[0..64], &[]).is_ok());
-    match Premises::new(&Sc, &GlobalClock, &records, &[]) {
+    assert!(rt; Premises::new(&SC, &records[0..64], &[]).is_ok());
+    match Premises::new(&SC, &records, &[]) {
         Ok(_) => Err(Fail::new("65 records are taken")),
         Err(refusal) => {
             assert_eq!(rt; u8::from(refusal), 6);
@@ -467,7 +448,7 @@ fn follow_as_told(rt: &impl Abort, premises: &Premises<'_, Sc, GlobalClock>) -> 
 fn a_line_follows_only_with_two_records_and_a_third_where_its_rule_names_one(
     rt: HostRuntime,
 ) -> Result<(), Fail> {
-    match Premises::new(&Sc, &GlobalClock, &RECORDS, &given_lines()) {
+    match Premises::new(&SC, &RECORDS, &given_lines()) {
         Ok(premises) => follow_as_told(&rt, &premises),
         Err(_) => Err(Fail::new("5 records are refused")),
     }

@@ -1,7 +1,8 @@
 // Listing lines.
 ghost use Rattle.std.specs.Prelude.{◌≡◌, ◌≤◌, [], length, IfOk};
 ghost use Rattle.memory.specs.Limits.{most_records};
-ghost use Rattle.memory.specs.Runs.{setting, run_of};
+ghost use Rattle.memory.specs.Runs.{run_of};
+ghost use Rattle.memory.specs.Settings.{setting_of};
 ghost use Rattle.inference.specs.Listing.{list_lines, Lists, Out};
 ghost use Rattle.inference.specs.Next.{next as next_of};
 ghost use Rattle.inference.specs.Views.{lines_of, Took, listing as listing_of, Infers};
@@ -15,18 +16,18 @@ use memory::lines::Line;
 use memory::models::Model;
 use memory::records::Record;
 use memory::refusals::Refusal;
+use memory::settings::Setting;
 use std::alloc::{AllocError, Global};
 
 fn next_after<'a, M: Model, C: Clock>(
-    model: &'a M,
-    clock: &'a C,
+    setting: &'a Setting<M, C>,
     records: &'a [Record],
     lines: &'a [Line],
 ) -> Option<Line>
     requires { length records.now ≤ most_records }
-    ensures { result ≡ next_of (run_of (setting (M.Model.orders model.now) (C.Clock.earlier clock.now) M.Model.MARK C.Clock.MARK) records.now) lines.now }
+    ensures { result ≡ next_of (run_of (setting_of M.Model C.Clock setting.now) records.now) lines.now }
 {
-    let Ok(premises) = Premises::new(model, clock, records, lines) else {
+    let Ok(premises) = Premises::new(setting, records, lines) else {
         unreachable()
     };
     premises.next_line()
@@ -55,14 +56,13 @@ impl Lines {
     // Lists the next line, if there is one, and answers whether it is opposed to one before it.
     fn list_next<M: Model, C: Clock>(
         &mut self,
-        model: &M,
-        clock: &C,
+        setting: &Setting<M, C>,
         records: &[Record],
     ) -> Option<bool>
         requires { length records.now ≤ most_records }
-        ensures { Took (next_of (run_of (setting (M.Model.orders model.now) (C.Clock.earlier clock.now) M.Model.MARK C.Clock.MARK) records.now) (lines_of self.old)) (lines_of self.old) (lines_of self.new) result }
+        ensures { Took (next_of (run_of (setting_of M.Model C.Clock setting.now) records.now) (lines_of self.old)) (lines_of self.old) (lines_of self.new) result }
     {
-        let line = next_after(model, clock, records, self.as_slice())?;
+        let line = next_after(setting, records, self.as_slice())?;
         let opposed = is_listed(self.as_slice(), line.second, line.first);
         self.items.push_reserved(line);
         Some(opposed)
@@ -70,17 +70,16 @@ impl Lines {
 
     fn list_up_to<M: Model, C: Clock>(
         &mut self,
-        model: &M,
-        clock: &C,
+        setting: &Setting<M, C>,
         records: &[Record],
         k: u64,
     ) -> Listed
         requires { length records.now ≤ most_records }
-        ensures { listing_of result (lines_of self.new) ≡ list_lines (run_of (setting (M.Model.orders model.now) (C.Clock.earlier clock.now) M.Model.MARK C.Clock.MARK) records.now) k (lines_of self.old) }
+        ensures { listing_of result (lines_of self.new) ≡ list_lines (run_of (setting_of M.Model C.Clock setting.now) records.now) k (lines_of self.old) }
     {
         let mut count = 0;
         while count < k {
-            let Some(opposed) = self.list_next(model, clock, records) else {
+            let Some(opposed) = self.list_next(setting, records) else {
                 return Listed {
                     count,
                     opposed: false,
@@ -100,18 +99,17 @@ impl Lines {
     // Lists next lines until k are listed, none follows, or one is opposed to a listed one. Refused where there are more records than a run may have.
     pub fn infer<M: Model, C: Clock>(
         &mut self,
-        model: &M,
-        clock: &C,
+        setting: &Setting<M, C>,
         records: &[Record],
         k: u64,
     ) -> Result<Listed, Refusal>
-        ensures value { Infers (run_of (setting (M.Model.orders model.now) (C.Clock.earlier clock.now) M.Model.MARK C.Clock.MARK) records.now) k (lines_of self.old) (lines_of self.new) result }
-        ensures lists { IfOk result (λ l. Lists (run_of (setting (M.Model.orders model.now) (C.Clock.earlier clock.now) M.Model.MARK C.Clock.MARK) records.now) k (lines_of self.old) (listing_of l (lines_of self.new))) }
-        ensures out { IfOk result (λ l. Out (run_of (setting (M.Model.orders model.now) (C.Clock.earlier clock.now) M.Model.MARK C.Clock.MARK) records.now) k (listing_of l (lines_of self.new))) }
+        ensures value { Infers (run_of (setting_of M.Model C.Clock setting.now) records.now) k (lines_of self.old) (lines_of self.new) result }
+        ensures lists { IfOk result (λ l. Lists (run_of (setting_of M.Model C.Clock setting.now) records.now) k (lines_of self.old) (listing_of l (lines_of self.new))) }
+        ensures out { IfOk result (λ l. Out (run_of (setting_of M.Model C.Clock setting.now) records.now) k (listing_of l (lines_of self.new))) }
     {
         if records.len() > MOST_RECORDS {
             return Err(Refusal::Full);
         }
-        Ok(self.list_up_to(model, clock, records, k))
+        Ok(self.list_up_to(setting, records, k))
     }
 }

@@ -1,8 +1,7 @@
 // Taking records and lines as premises.
-ghost use Rattle.std.specs.Prelude.{◌≡◌, ◌<◌, ◌≤◌, length, MatchResult};
+ghost use Rattle.std.specs.Prelude.{◌≡◌, ◌<◌, length, MatchResult};
 ghost use Rattle.memory.specs.Limits.{most_records};
 ghost use Rattle.memory.specs.declared.refusals.Refusal.TheVariants.{Full};
-ghost use Rattle.inference.specs.Views.{records_in, lines_in};
 
 use crate::premises::Premises;
 use memory::clocks::Clock;
@@ -11,25 +10,24 @@ use memory::lines::Line;
 use memory::models::Model;
 use memory::records::Record;
 use memory::refusals::Refusal;
+use memory::settings::Setting;
 
 impl<'a, M: Model, C: Clock> Premises<'a, M, C> {
     // Refused where there are more records than a run may have.
     pub fn new(
-        model: &'a M,
-        clock: &'a C,
+        setting: &'a Setting<M, C>,
         records: &'a [Record],
         lines: &'a [Line],
     ) -> Result<Premises<'a, M, C>, Refusal>
         ensures { MatchResult result
-            (λ p. (p.model ≡ model.entry) × (p.clock ≡ clock.entry) × (p.records ≡ records.entry) × (p.lines ≡ lines.entry))
+            (λ p. (p.setting ≡ setting.entry) × (p.records ≡ records.entry) × (p.lines ≡ lines.entry))
             (λ e. (e ≡ Full) × (most_records < length records.now)) }
     {
         if records.len() > MOST_RECORDS {
             return Err(Refusal::Full);
         }
         Ok(Premises {
-            model,
-            clock,
+            setting,
             records,
             lines,
         })

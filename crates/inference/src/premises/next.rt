@@ -14,7 +14,7 @@ use memory::models::Model;
 impl<M: Model, C: Clock> Premises<'_, M, C> {
     // The line, if it follows and its pair is new.
     fn if_fits(&self, line: Line) -> Option<Line>
-        ensures { result ≡ if_fits (fits (run_in M.Model.orders C.Clock.earlier M.Model.MARK C.Clock.MARK self.now) (lines_in self.now) line) line }
+        ensures { result ≡ if_fits (fits (run_in self.now) (lines_in self.now) line) line }
     {
         if self.passes(line) && !is_listed(self.lines, line.first, line.second) {
             Some(line)
@@ -24,7 +24,7 @@ impl<M: Model, C: Clock> Premises<'_, M, C> {
     }
 
     fn least_third(&self, rule: Rule, first: u8, second: u8) -> Option<Line>
-        ensures { result ≡ seek (tried (run_in M.Model.orders C.Clock.earlier M.Model.MARK C.Clock.MARK self.now) (lines_in self.now) rule first second) (length (records_in self.now)) }
+        ensures { result ≡ seek (tried (run_in self.now) (lines_in self.now) rule first second) (length (records_in self.now)) }
     {
         let thirds = self.count();
         for i in 0..thirds {
@@ -43,7 +43,7 @@ impl<M: Model, C: Clock> Premises<'_, M, C> {
 
     // No third is looked for where the pair is listed.
     fn least_of_pair(&self, rule: Rule, first: u8, second: u8) -> Option<Line>
-        ensures { result ≡ least_of_pair (run_in M.Model.orders C.Clock.earlier M.Model.MARK C.Clock.MARK self.now) (lines_in self.now) rule first second }
+        ensures { result ≡ least_of_pair (run_in self.now) (lines_in self.now) rule first second }
     {
         if !has_third(rule) {
             return self.if_fits(Line {
@@ -60,7 +60,7 @@ impl<M: Model, C: Clock> Premises<'_, M, C> {
     }
 
     fn least_of_first(&self, rule: Rule, first: u8) -> Option<Line>
-        ensures { result ≡ least_of_first (run_in M.Model.orders C.Clock.earlier M.Model.MARK C.Clock.MARK self.now) (lines_in self.now) rule first }
+        ensures { result ≡ least_of_first (run_in self.now) (lines_in self.now) rule first }
     {
         for i in 0..self.count() {
             if let Some(line) = self.least_of_pair(rule, first, i + 1) {
@@ -71,7 +71,7 @@ impl<M: Model, C: Clock> Premises<'_, M, C> {
     }
 
     fn least_of_rule(&self, rule: Rule) -> Option<Line>
-        ensures { result ≡ least_of_rule (run_in M.Model.orders C.Clock.earlier M.Model.MARK C.Clock.MARK self.now) (lines_in self.now) (Some rule) }
+        ensures { result ≡ least_of_rule (run_in self.now) (lines_in self.now) (Some rule) }
     {
         for i in 0..self.count() {
             if let Some(line) = self.least_of_first(rule, i + 1) {
@@ -82,13 +82,13 @@ impl<M: Model, C: Clock> Premises<'_, M, C> {
     }
 
     fn least_of_number(&self, number: u8) -> Option<Line>
-        ensures { result ≡ least_of_rule (run_in M.Model.orders C.Clock.earlier M.Model.MARK C.Clock.MARK self.now) (lines_in self.now) (rule_at number) }
+        ensures { result ≡ least_of_rule (run_in self.now) (lines_in self.now) (rule_at number) }
     {
         self.least_of_rule(Rule::try_from(number).ok()?)
     }
 
     fn least(&self) -> Option<Line>
-        ensures { result ≡ next_of (run_in M.Model.orders C.Clock.earlier M.Model.MARK C.Clock.MARK self.now) (lines_in self.now) }
+        ensures { result ≡ next_of (run_in self.now) (lines_in self.now) }
     {
         for i in 0..7u8 {
             if let Some(line) = self.least_of_number(i + 1) {
@@ -100,8 +100,8 @@ impl<M: Model, C: Clock> Premises<'_, M, C> {
 
     // The least line that follows and whose pair is new.
     pub fn next_line(&self) -> Option<Line>
-        ensures value { result ≡ next_of (run_in M.Model.orders C.Clock.earlier M.Model.MARK C.Clock.MARK self.now) (lines_in self.now) }
-        ensures least { Next (run_in M.Model.orders C.Clock.earlier M.Model.MARK C.Clock.MARK self.now) (lines_in self.now) result }
+        ensures value { result ≡ next_of (run_in self.now) (lines_in self.now) }
+        ensures least { Next (run_in self.now) (lines_in self.now) result }
     {
         self.least()
     }

@@ -1,6 +1,6 @@
 // The seven rules.
 ghost use Rattle.std.specs.Prelude.{◌≡◌, true, length};
-ghost use Rattle.memory.specs.Runs.{at, shares};
+ghost use Rattle.memory.specs.Runs.{at};
 ghost use Rattle.memory.specs.declared.lines.Rule.TheVariants.{Coherence, FromRead};
 ghost use Rattle.inference.specs.Rules.{known, reads_initial, rivals, overwritten, by_rule, names_third, third_fits, follows as follows_from};
 ghost use Rattle.inference.specs.Views.{records_in, lines_in, Numbers, setting_in, run_in};
@@ -13,12 +13,6 @@ use memory::lines::{Line, Rule};
 use memory::models::Model;
 use memory::reading::reads_from;
 use memory::records::Record;
-
-fn share_address(x: Record, y: Record) -> bool
-    ensures { result ≡ shares x y }
-{
-    !x.kind.is_fence() && !y.kind.is_fence() && x.address == y.address
-}
 
 pub(super) fn has_third(rule: Rule) -> bool
     ensures { result ≡ names_third rule }
@@ -37,7 +31,7 @@ impl<M: Model, C: Clock> Premises<'_, M, C> {
     }
 
     fn is_record(&self, number: u8) -> bool
-        ensures { result ≡ known (run_in M.Model.orders C.Clock.earlier M.Model.MARK C.Clock.MARK self.now) number }
+        ensures { result ≡ known (run_in self.now) number }
     {
         0 < number && number <= self.count()
     }
@@ -53,31 +47,30 @@ impl<M: Model, C: Clock> Premises<'_, M, C> {
     fn by_clock(&self, first: u8, second: u8) -> bool
         requires first { Numbers self.now first }
         requires second { Numbers self.now second }
-        ensures { result ≡ (run_in M.Model.orders C.Clock.earlier M.Model.MARK C.Clock.MARK self.now).clock first second }
+        ensures { result ≡ (run_in self.now).clock first second }
     {
         let x = self.record(first);
         let y = self.record(second);
-        self.clock
+        self.setting
+            .clock
             .surely_earlier(x.processor, x.commit, y.processor, y.enter)
     }
 
     fn by_model(&self, first: u8, second: u8) -> bool
         requires first { Numbers self.now first }
         requires second { Numbers self.now second }
-        ensures { result ≡ (run_in M.Model.orders C.Clock.earlier M.Model.MARK C.Clock.MARK self.now).model first second }
+        ensures { result ≡ (run_in self.now).model first second }
     {
         let x = self.record(first);
         let y = self.record(second);
-        first < second
-            && x.processor == y.processor
-            && self.model.must_precede(x.kind, y.kind, share_address(x, y))
+        first < second && self.setting.keeps(x, y)
     }
 
     // A load of 0, and a store to its address.
     fn by_initial_read(&self, load: u8, store: u8) -> bool
         requires load { Numbers self.now load }
         requires store { Numbers self.now store }
-        ensures { result ≡ reads_initial (run_in M.Model.orders C.Clock.earlier M.Model.MARK C.Clock.MARK self.now) load store }
+        ensures { result ≡ reads_initial (run_in self.now) load store }
     {
         let x = self.record(load);
         let w = self.record(store);
@@ -88,7 +81,7 @@ impl<M: Model, C: Clock> Premises<'_, M, C> {
     fn are_rivals(&self, first: u8, second: u8) -> bool
         requires first { Numbers self.now first }
         requires second { Numbers self.now second }
-        ensures { result ≡ rivals (run_in M.Model.orders C.Clock.earlier M.Model.MARK C.Clock.MARK self.now) first second }
+        ensures { result ≡ rivals (run_in self.now) first second }
     {
         let v = self.record(first);
         let w = self.record(second);
@@ -100,7 +93,7 @@ impl<M: Model, C: Clock> Premises<'_, M, C> {
         requires first { Numbers self.now first }
         requires second { Numbers self.now second }
         requires load { Numbers self.now load }
-        ensures { result ≡ by_rule (run_in M.Model.orders C.Clock.earlier M.Model.MARK C.Clock.MARK self.now) (lines_in self.now) Coherence first second load }
+        ensures { result ≡ by_rule (run_in self.now) (lines_in self.now) Coherence first second load }
     {
         reads_from(self.record(load), self.record(second))
             && self.are_rivals(first, second)
@@ -112,7 +105,7 @@ impl<M: Model, C: Clock> Premises<'_, M, C> {
         requires load { Numbers self.now load }
         requires second { Numbers self.now second }
         requires store { Numbers self.now store }
-        ensures { result ≡ overwritten (run_in M.Model.orders C.Clock.earlier M.Model.MARK C.Clock.MARK self.now) (lines_in self.now) load second store }
+        ensures { result ≡ overwritten (run_in self.now) (lines_in self.now) load second store }
     {
         reads_from(self.record(load), self.record(store))
             && self.are_rivals(store, second)
@@ -122,7 +115,7 @@ impl<M: Model, C: Clock> Premises<'_, M, C> {
     fn by_from_read(&self, load: u8, second: u8) -> bool
         requires load { Numbers self.now load }
         requires second { Numbers self.now second }
-        ensures { result ≡ by_rule (run_in M.Model.orders C.Clock.earlier M.Model.MARK C.Clock.MARK self.now) (lines_in self.now) FromRead load second 0 }
+        ensures { result ≡ by_rule (run_in self.now) (lines_in self.now) FromRead load second 0 }
     {
         for i in 0..self.count() {
             if self.is_overwritten(load, second, i + 1) {
@@ -133,7 +126,7 @@ impl<M: Model, C: Clock> Premises<'_, M, C> {
     }
 
     fn third_fits(&self, rule: Rule, third: u8) -> bool
-        ensures { result ≡ third_fits (run_in M.Model.orders C.Clock.earlier M.Model.MARK C.Clock.MARK self.now) (names_third rule) third }
+        ensures { result ≡ third_fits (run_in self.now) (names_third rule) third }
     {
         if has_third(rule) {
             self.is_record(third)
@@ -146,8 +139,8 @@ impl<M: Model, C: Clock> Premises<'_, M, C> {
     fn is_given(&self, line: Line) -> bool
         requires first { Numbers self.now line.first }
         requires second { Numbers self.now line.second }
-        requires third { third_fits (run_in M.Model.orders C.Clock.earlier M.Model.MARK C.Clock.MARK self.now) (names_third line.rule) line.third ≡ true }
-        ensures { result ≡ by_rule (run_in M.Model.orders C.Clock.earlier M.Model.MARK C.Clock.MARK self.now) (lines_in self.now) line.rule line.first line.second line.third }
+        requires third { third_fits (run_in self.now) (names_third line.rule) line.third ≡ true }
+        ensures { result ≡ by_rule (run_in self.now) (lines_in self.now) line.rule line.first line.second line.third }
     {
         match line.rule {
             Rule::Clock => self.by_clock(line.first, line.second),
@@ -163,7 +156,7 @@ impl<M: Model, C: Clock> Premises<'_, M, C> {
 
     // The line names two different records and a third as its rule does, and the rule gives it.
     pub(super) fn passes(&self, line: Line) -> bool
-        ensures { result ≡ follows_from (run_in M.Model.orders C.Clock.earlier M.Model.MARK C.Clock.MARK self.now) (lines_in self.now) line }
+        ensures { result ≡ follows_from (run_in self.now) (lines_in self.now) line }
     {
         self.is_record(line.first)
             && self.is_record(line.second)
@@ -174,8 +167,8 @@ impl<M: Model, C: Clock> Premises<'_, M, C> {
 
     // The line follows from the records and the lines. What follows from these records follows from them and any more.
     pub fn follows(&self, line: Line) -> bool
-        ensures value { result ≡ follows_from (run_in M.Model.orders C.Clock.earlier M.Model.MARK C.Clock.MARK self.now) (lines_in self.now) line }
-        ensures stays { Stays (setting_in M.Model.orders C.Clock.earlier M.Model.MARK C.Clock.MARK self.now) (records_in self.now) (lines_in self.now) line }
+        ensures value { result ≡ follows_from (run_in self.now) (lines_in self.now) line }
+        ensures stays { Stays (setting_in self.now) (records_in self.now) (lines_in self.now) line }
     {
         self.passes(line)
     }

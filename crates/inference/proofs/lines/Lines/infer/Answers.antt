@@ -1,6 +1,7 @@
 use Rattle.std.proofs.Common.{ℕ, List, sym, subst, arith}
 use Rattle.memory.specs.declared.lines.Line.{Line}
-use Rattle.memory.specs.Runs.{Run, setting, run_of}
+use Rattle.memory.specs.Runs.{Run, run_of}
+use Rattle.memory.specs.Settings.{setting_of}
 use Rattle.inference.specs.Listing.{Lists}
 use Rattle.inference.specs.Views.{lines_of}
 use Rattle.inference.proofs.Onward.{lists, lists_out}
@@ -8,7 +9,7 @@ use Rattle.inference.proofs.lines.Lines.infer.Goals as goal
 
 pub returns : goal.returns
 returns g c =
-    let R : Run = run_of (setting (g.M.Model.orders c.args.model.now) (g.C.Clock.earlier c.args.clock.now) g.M.Model.MARK g.C.Clock.MARK) c.args.records.now in
+    let R : Run = run_of (setting_of g.M.Model g.C.Clock c.args.setting.now) c.args.records.now in
     let k : ℕ = c.args.k in
     let ls : List Line = lines_of c.args.self.now in
     let is = c.list_up_to.ensures in

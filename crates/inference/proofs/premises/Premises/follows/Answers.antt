@@ -5,4 +5,4 @@ use Rattle.inference.proofs.premises.Premises.follows.Goals as goal
 pub returns : goal.returns
 returns g c =
     let self = c.args.self.now in
-    record { value = c.passes.ensures; stays = follows_stays (setting_in g.M.Model.orders g.C.Clock.earlier g.M.Model.MARK g.C.Clock.MARK self) (records_in self) (lines_in self) c.args.line }
+    record { value = c.passes.ensures; stays = follows_stays (setting_in self) (records_in self) (lines_in self) c.args.line }

@@ -6,14 +6,14 @@ use Rattle.inference.proofs.premises.Premises.least_of_pair.Goals as goal
 pub returns-then-not-has_third : goal.returns-then-not-has_third
 returns-then-not-has_third g c =
     let self = c.args.self.now in
-    c.if_fits.ensures ∙ only_zero (run_in g.M.Model.orders g.C.Clock.earlier g.M.Model.MARK g.C.Clock.MARK self) (lines_in self) c.args.rule c.args.first c.args.second (sym c.if-not-has_third.ensures)
+    c.if_fits.ensures ∙ only_zero (run_in self) (lines_in self) c.args.rule c.args.first c.args.second (sym c.if-not-has_third.ensures)
 
 pub returns-then-is_listed : goal.returns-then-is_listed
 returns-then-is_listed g c =
     let self = c.args.self.now in
-    sym (not_new (run_in g.M.Model.orders g.C.Clock.earlier g.M.Model.MARK g.C.Clock.MARK self) (lines_in self) c.args.rule c.args.first c.args.second (sym c.if-is_listed.ensures))
+    sym (not_new (run_in self) (lines_in self) c.args.rule c.args.first c.args.second (sym c.if-is_listed.ensures))
 
 pub returns : goal.returns
 returns g c =
     let self = c.args.self.now in
-    c.least_third.ensures ∙ only_records (run_in g.M.Model.orders g.C.Clock.earlier g.M.Model.MARK g.C.Clock.MARK self) (lines_in self) c.args.rule c.args.first c.args.second (sym c.if-not-has_third.ensures)
+    c.least_third.ensures ∙ only_records (run_in self) (lines_in self) c.args.rule c.args.first c.args.second (sym c.if-not-has_third.ensures)

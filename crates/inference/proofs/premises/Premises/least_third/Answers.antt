@@ -8,9 +8,9 @@ pub returns-in-Some : goal.returns-in-Some
 returns-in-Some g c =
     let self = c.args.self.now in
     let lt : c.loop-i.i < length (records_in self) = omega (arith, c.count-thirds.ensures) in
-    sym (seek_here (tried (run_in g.M.Model.orders g.C.Clock.earlier g.M.Model.MARK g.C.Clock.MARK self) (lines_in self) c.args.rule c.args.first c.args.second) c.loop-i.i c.loop-i.invariant (length (records_in self)) c.in-Some.line lt (sym c.in-Some.ensures))
+    sym (seek_here (tried (run_in self) (lines_in self) c.args.rule c.args.first c.args.second) c.loop-i.i c.loop-i.invariant (length (records_in self)) c.in-Some.line lt (sym c.in-Some.ensures))
 
 pub loop-i-preserved : goal.loop-i-preserved
 loop-i-preserved g c =
     let self = c.args.self.now in
-    seek_more (tried (run_in g.M.Model.orders g.C.Clock.earlier g.M.Model.MARK g.C.Clock.MARK self) (lines_in self) c.args.rule c.args.first c.args.second) c.loop-i.i c.loop-i.invariant (sym c.in_default.ensures)
+    seek_more (tried (run_in self) (lines_in self) c.args.rule c.args.first c.args.second) c.loop-i.i c.loop-i.invariant (sym c.in_default.ensures)

@@ -7,5 +7,5 @@ use Rattle.inference.proofs.premises.Premises.next_line.Goals as goal
 pub returns : goal.returns
 returns g c =
     let self = c.args.self.now in
-    let R = run_in g.M.Model.orders g.C.Clock.earlier g.M.Model.MARK g.C.Clock.MARK self in
+    let R = run_in self in
     record { value = c.least.ensures; least = subst (Next R (lines_in self)) (sym c.least.ensures) (next_is R (lines_in self)) }
