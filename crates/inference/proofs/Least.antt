@@ -1,5 +1,5 @@
 -- The next line is the least that fits. Assumes nothing.
-use Rattle.std.proofs.Common.{◌≡◌, ℕ, zero, suc, ◌<◌, ◌≤◌, Bool, true, false, ◌⊎◌, List, Some, None, Option, sym, refl, ap, ◌∙◌, subst, inl, inr, ⊎_elim, arith}
+use Rattle.std.proofs.Common.{◌≡◌, ℕ, zero, suc, ◌<◌, ◌≤◌, Bool, true, false, ◌⊎◌, List, [], ◌∷◌, get_or, Some, None, Option, sym, refl, ap, ◌∙◌, subst, inl, inr, ⊎_elim, arith}
 use Rattle.std.proofs.lemmas.Bool.{and_parts, cases_Bool, cases_lt, cases_order}
 use Rattle.memory.specs.declared.lines.Line.{Line}
 use Rattle.memory.specs.declared.lines.Rule.{Rule}
@@ -19,6 +19,20 @@ rule_back InitialRead = refl
 rule_back Coherence = refl
 rule_back FromRead = refl
 rule_back Transitive = refl
+
+-- the rules in the order of their numbers
+abbrev pub all_rules : List Rule
+all_rules = Clock ∷ Model ∷ ReadsFrom ∷ InitialRead ∷ Coherence ∷ FromRead ∷ Transitive ∷ []
+
+pub rule_in_order : (k : ℕ) → k < 7 → Some (get_or all_rules k Clock) ≡ rule_at (suc k)
+rule_in_order zero lt = refl
+rule_in_order (suc zero) lt = refl
+rule_in_order (suc (suc zero)) lt = refl
+rule_in_order (suc (suc (suc zero))) lt = refl
+rule_in_order (suc (suc (suc (suc zero)))) lt = refl
+rule_in_order (suc (suc (suc (suc (suc zero))))) lt = refl
+rule_in_order (suc (suc (suc (suc (suc (suc zero)))))) lt = refl
+rule_in_order (suc (suc (suc (suc (suc (suc (suc k))))))) lt = absurd (omega arith)
 
 number_within : (r : Rule) → (0 < rule_number r) × (rule_number r ≤ 7)
 number_within Clock = (omega arith, omega arith)

@@ -7,5 +7,6 @@ pub mod Opposed
 pub mod Pairs
 pub mod Places
 pub mod Room
+pub mod Searches
 pub mod Sound
 pub mod Thirds

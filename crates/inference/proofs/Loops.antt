@@ -1,6 +1,6 @@
 -- Loops that look for the first of 1 to n that gives something, or for one that passes. Assumes nothing.
 use Rattle.std.proofs.Common.{◌≡◌, ℕ, zero, suc, ◌+◌, ◌<◌, ◌≤◌, Bool, true, false, Some, None, Option, sym, refl, ap, ◌∙◌, subst, ⊎_elim, add-one, arith}
-use Rattle.std.proofs.lemmas.Bool.{or_cases, or_from, or_left, or_right, both_ways, cases_eq}
+use Rattle.std.proofs.lemmas.Bool.{or_cases, or_from, or_left, or_right, both_ways, cases_eq, cases_lt}
 use Rattle.inference.specs.Next.{or_else, seek}
 use Rattle.inference.specs.Rules.{some}
 
@@ -51,3 +51,19 @@ module _ (p : ℕ → Bool) (i : ℕ) where
 
   pub some_here : (n : ℕ) → i < n → p (i + 1) ≡ true → some p n ≡ true
   some_here n lt yes' = some_from p n (i + 1) (omega arith) (omega arith) yes'
+
+-- what is sought is there once
+pub sought_once : {X : Type 0} (f : ℕ → Option X) (n : ℕ) (r : Option X) → Sought f n r → r ≡ seek f n
+sought_once {X} f n r s = go r (seek f n) s (sought f n)
+  where
+    clash : (o : Option X) (x : X) → o ≡ None → o ≡ Some x → ⊥
+    clash o x p q = cc (p, q)
+
+    go : (a b : Option X) → Sought f n a → Sought f n b → a ≡ b
+    go None None a b = refl
+    go None (Some y) a b = absurd (clash _ y (a b.0 b.1 b.2) b.3)
+    go (Some x) None a b = absurd (clash _ x (b a.0 a.1 a.2) a.3)
+    go (Some x) (Some y) a b =
+        ⊎_elim (λ lt. absurd (clash _ x (b.4 a.0 a.1 lt) a.3))
+        (λ ge. ⊎_elim (λ gt. absurd (clash _ y (a.4 b.0 b.1 gt) b.3)) (λ le. let same : a.0 ≡ b.0 = omega arith in cc (same, a.3, b.3)) (cases_lt b.0 a.0))
+        (cases_lt a.0 b.0)

@@ -26,19 +26,14 @@ impl<M: Model, C: Clock> Premises<'_, M, C> {
     fn least_third(&self, rule: Rule, first: u8, second: u8) -> Option<Line>
         ensures { result ≡ seek (tried (run_in self.now) (lines_in self.now) rule first second) (length (records_in self.now)) }
     {
-        let thirds = self.count();
-        for i in 0..thirds {
-            let third = i + 1;
-            if let Some(line) = self.if_fits(Line {
+        (1..=self.count()).find_map(|third| {
+            self.if_fits(Line {
                 rule,
                 first,
                 second,
                 third,
-            }) {
-                return Some(line);
-            }
-        }
-        None
+            })
+        })
     }
 
     // No third is looked for where the pair is listed.
@@ -62,23 +57,13 @@ impl<M: Model, C: Clock> Premises<'_, M, C> {
     fn least_of_first(&self, rule: Rule, first: u8) -> Option<Line>
         ensures { result ≡ least_of_first (run_in self.now) (lines_in self.now) rule first }
     {
-        for i in 0..self.count() {
-            if let Some(line) = self.least_of_pair(rule, first, i + 1) {
-                return Some(line);
-            }
-        }
-        None
+        (1..=self.count()).find_map(|second| self.least_of_pair(rule, first, second))
     }
 
     fn least_of_rule(&self, rule: Rule) -> Option<Line>
         ensures { result ≡ least_of_rule (run_in self.now) (lines_in self.now) (Some rule) }
     {
-        for i in 0..self.count() {
-            if let Some(line) = self.least_of_first(rule, i + 1) {
-                return Some(line);
-            }
-        }
-        None
+        (1..=self.count()).find_map(|first| self.least_of_first(rule, first))
     }
 
     fn least_of_number(&self, number: u8) -> Option<Line>
@@ -90,12 +75,7 @@ impl<M: Model, C: Clock> Premises<'_, M, C> {
     fn least(&self) -> Option<Line>
         ensures { result ≡ next_of (run_in self.now) (lines_in self.now) }
     {
-        for i in 0..7u8 {
-            if let Some(line) = self.least_of_number(i + 1) {
-                return Some(line);
-            }
-        }
-        None
+        Rule::ALL.iter().find_map(|rule| self.least_of_rule(*rule))
     }
 
     // The least line that follows and whose pair is new.

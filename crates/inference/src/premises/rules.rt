@@ -117,12 +117,7 @@ impl<M: Model, C: Clock> Premises<'_, M, C> {
         requires second { Numbers self.now second }
         ensures { result ≡ by_rule (run_in self.now) (lines_in self.now) FromRead load second 0 }
     {
-        for i in 0..self.count() {
-            if self.is_overwritten(load, second, i + 1) {
-                return true;
-            }
-        }
-        false
+        (1..=self.count()).any(|store| self.is_overwritten(load, second, store))
     }
 
     fn third_fits(&self, rule: Rule, third: u8) -> bool

@@ -1,16 +1,10 @@
-use Rattle.std.proofs.Common.{◌<◌, length, sym, arith}
+use Rattle.std.proofs.Common.{length, rules}
 use Rattle.inference.specs.Next.{tried}
 use Rattle.inference.specs.Views.{records_in, lines_in, run_in}
-use Rattle.inference.proofs.Loops.{seek_more, seek_here}
+use Rattle.inference.proofs.Searches.{find_map_upto}
 use Rattle.inference.proofs.premises.Premises.least_third.Goals as goal
 
-pub returns-in-Some : goal.returns-in-Some
-returns-in-Some g c =
+pub returns : goal.returns
+returns g c =
     let self = c.args.self.now in
-    let lt : c.loop-i.i < length (records_in self) = omega (arith, c.count-thirds.ensures) in
-    sym (seek_here (tried (run_in self) (lines_in self) c.args.rule c.args.first c.args.second) c.loop-i.i c.loop-i.invariant (length (records_in self)) c.in-Some.line lt (sym c.in-Some.ensures))
-
-pub loop-i-preserved : goal.loop-i-preserved
-loop-i-preserved g c =
-    let self = c.args.self.now in
-    seek_more (tried (run_in self) (lines_in self) c.args.rule c.args.first c.args.second) c.loop-i.i c.loop-i.invariant (sym c.in_default.ensures)
+    find_map_upto (length (records_in self)) _ (search rules) (search rules) (search rules) _ _ (tried (run_in self) (lines_in self) c.args.rule c.args.first c.args.second) (λ x r q k. search rules) _ c.find_map.ensures.runs

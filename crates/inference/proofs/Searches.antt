@@ -1,0 +1,108 @@
+-- What searches along 1..=n find, as `find_map` and `any` say it. Assumes nothing.
+use Rattle.std.proofs.Common.{◌≡◌, ℕ, zero, suc, ◌+◌, ◌<◌, ◌≤◌, Bool, true, false, List, length, get_or, Some, None, Option, sym, ap, ◌∙◌, subst, ⊎_elim, arith}
+use Rattle.std.proofs.lemmas.Bool.{cases_Bool, both_ways}
+use Rattle.std.proofs.iter.runs.Sources.{nat_range_inclusive_steps, inclusive_listed}
+use Rattle.std.specs.declared.ops.RangeInclusive.{RangeInclusive}
+use Rattle.std.specs.Range.{range_inclusive_start, range_inclusive_end, range_inclusive_exhausted}
+use Rattle.std.specs.Fn.{Called, Mut}
+use Rattle.std.specs.Iterator.{ActsAs}
+use Rattle.std.specs.Iterator.Runs.{Run, SomeRun, CallKeepsClosure, AllItemsGive, AnyItemGives, IsFirstToGive, EveryRun, ItemsMapTo}
+use Rattle.std.specs.Option.{MatchOption, IfSome, IsSomeAnd, option_map}
+use Rattle.std.specs.Bool.{IsTrue, MatchBool}
+use Rattle.inference.specs.Next.{seek}
+use Rattle.inference.specs.Rules.{some}
+use Rattle.inference.proofs.Loops.{Sought, sought_once, some_at, some_from}
+
+-- the item at a place below the length
+there : {A : Type 0} {P Q : A → Type 0} (o : Option A) → IsSomeAnd o P → IfSome o Q → (x : A) × P x × Q x
+there None p q = absurd p
+there (Some x) p q = (x, p, q)
+
+both : {A : Type 0} {P Q : A → Type 0} (o : Option A) → IsSomeAnd o P → IsSomeAnd o Q → (x : A) × P x × Q x
+both None p q = absurd p
+both (Some x) p q = (x, p, q)
+
+module _ {S A F R : Type 0} {steps : S → Option A → S → Type 0} (g : Mut F (A × Unit {0}) R) (f : F) (h : ℕ → R) (n : ℕ) where
+  -- a run of n items or fewer, where f answers h 1 at the first, h 2 at the second, and so on
+  pub record Numbers (p : Run steps) : Type 0 where
+    pub few : p.len ≤ n
+    pub all : p.whole ≡ true → p.len ≡ n
+    pub keeps : CallKeepsClosure g f
+    pub gives : (k : ℕ) → k < p.len → IsSomeAnd (p.at k) (λ x. (r : R) (q : F) → Called g f (x, tt) r q → r ≡ h (suc k))
+
+-- what `find_map` and `any` answer, by their clauses `runs`
+abbrev pub Finds : {S A F X : Type 0} {steps : S → Option A → S → Type 0} → Mut F (A × Unit {0}) (Option X) → F → Option X → Run steps → Type 0
+Finds g f r p = MatchOption r (IsTrue p.whole × AllItemsGive p g f None) (λ y. (i : ℕ) × (i < p.len) × (p.len ≡ i + 1) × IsFirstToGive p g f (Some y) None i)
+
+abbrev pub Passes : {S A F : Type 0} {steps : S → Option A → S → Type 0} → Mut F (A × Unit {0}) Bool → F → Bool → Run steps → Type 0
+Passes g f r p = MatchBool r (AnyItemGives p g f true) (IsTrue p.whole × AllItemsGive p g f false)
+
+module _ {S A F X : Type 0} {steps : S → Option A → S → Type 0} (g : Mut F (A × Unit {0}) (Option X)) (f : F) (h : ℕ → Option X) (n : ℕ) (p : Run steps) (num : Numbers g f h n p) where
+  find_map_seeks : (r : Option X) → Finds g f r p → r ≡ seek h n
+  find_map_seeks r found = sought_once h n r (go r found)
+    where
+      go : (r : Option X) → Finds g f r p → Sought h n r
+      go None (whole, none) = none_at
+        where
+          none_at : (k : ℕ) → 0 < k → k ≤ n → h k ≡ None
+          none_at zero some le = absurd (omega arith)
+          none_at (suc k) some le = let t = there (p.at k) (num.gives k (omega (arith, num.all whole))) (none num.keeps k) in sym (t.1 None f t.2)
+      go (Some y) (i, lt, long, first) = (suc i, omega arith, omega (arith, num.few), sym (hit.1 (Some y) f hit.2), before)
+        where
+          hit : (x : A) × ((r : Option X) (q : F) → Called g f (x, tt) r q → r ≡ h (suc i)) × Called g f (x, tt) (Some y) f
+          hit = both (p.at i) (num.gives i lt) (first num.keeps).0
+
+          before : (j : ℕ) → 0 < j → j < suc i → h j ≡ None
+          before zero some le = absurd (omega arith)
+          before (suc j) some le = let t = both (p.at j) (num.gives j (omega arith)) ((first num.keeps).1 j (omega arith)) in sym (t.1 None f t.2)
+
+module _ {S A F : Type 0} {steps : S → Option A → S → Type 0} (g : Mut F (A × Unit {0}) Bool) (f : F) (h : ℕ → Bool) (n : ℕ) (p : Run steps) (num : Numbers g f h n p) where
+  any_some : (r : Bool) → Passes g f r p → r ≡ some h n
+  any_some true any' = let k = any' num.keeps in let t = both (p.at k.0) (num.gives k.0 k.1) k.2 in sym (some_from h n (suc k.0) (omega arith) (omega (arith, k.1, num.few)) (sym (t.1 true f t.2)))
+  any_some false (whole, none) = ⊎_elim (λ e. let s = some_at h n e in absurd (both_ways _ (none_at s.0 s.1 s.2) s.3)) (λ e. sym e) (cases_Bool (some h n))
+    where
+      none_at : (k : ℕ) → 0 < k → k ≤ n → h k ≡ false
+      none_at zero some le = absurd (omega arith)
+      none_at (suc k) some le = let t = there (p.at k) (num.gives k (omega (arith, num.all whole))) (none num.keeps k) in sym (t.1 false f t.2)
+
+module _ {F R : Type 0} (g : Mut F (ℕ × Unit {0}) R) (f : F) (h : ℕ → R) (n : ℕ) (s : RangeInclusive ℕ) (start : range_inclusive_start s ≡ 1) (end : range_inclusive_end s ≡ n) (unspent : range_inclusive_exhausted s ≡ false) (acts : ActsAs g f h) where
+  -- the run of 1..=n
+  counted : (p : Run nat_range_inclusive_steps) → p.from ≡ s → Numbers g f h n p
+  counted p from =
+      let l = inclusive_listed p p.seen in
+      let u = l.4 (ap range_inclusive_exhausted from ∙ unspent) in
+      let a : l.0 ≡ 1 = l.2 ∙ ap range_inclusive_start from ∙ start in
+      let b : l.1 ≡ n + 1 = l.3 ∙ ap (λ z. range_inclusive_end z + 1) from ∙ ap (λ z. z + 1) end in
+      record {
+        few = omega (arith, u.0.0);
+        all = λ w. omega (arith, u.0.1 w);
+        keeps = λ x r q c. (acts x.0 r q c).0;
+        gives = λ k lt. at (p.at k) (l.0 + k) (omega arith) (u.0.3 k lt);
+      }
+    where
+      at : (o : Option ℕ) (x : ℕ) {k : ℕ} → x ≡ suc k → option_map (λ y. y) o ≡ Some x → IsSomeAnd o (λ x. (r : R) (q : F) → Called g f (x, tt) r q → r ≡ h (suc k))
+      at None x e is = absurd (let z : ◌≡◌ {A = ℕ} 0 1 = cc in omega arith)
+      at (Some y) x {k} e is = λ r q c. (acts y r q c).1 ∙ ap h (cc)
+
+module _ {F : Type 0} (n : ℕ) (s : RangeInclusive ℕ) (start : range_inclusive_start s ≡ 1) (end : range_inclusive_end s ≡ n) (unspent : range_inclusive_exhausted s ≡ false) where
+  pub find_map_upto : {X : Type 0} (g : Mut F (ℕ × Unit {0}) (Option X)) (f : F) (h : ℕ → Option X) → ActsAs g f h → (r : Option X) → SomeRun nat_range_inclusive_steps s (Finds g f r) → r ≡ seek h n
+  find_map_upto g f h acts r (p, from, found) = find_map_seeks g f h n p (counted g f h n s start end unspent acts p from) r found
+
+  pub any_upto : (g : Mut F (ℕ × Unit {0}) Bool) (f : F) (h : ℕ → Bool) → ActsAs g f h → (r : Bool) → SomeRun nat_range_inclusive_steps s (Passes g f r) → r ≡ some h n
+  any_upto g f h acts r (p, from, found) = any_some g f h n p (counted g f h n s start end unspent acts p from) r found
+
+-- the same of a list, where f answers h 1 at its first, h 2 at its second, and so on
+module _ {S A B F X : Type 0} {steps : S → Option A → S → Type 0} (v : A → B) (rest : S → List B) (every : EveryRun steps (λ p. ItemsMapTo p v (rest p.from))) (s : S) (xs : List B) (left : rest s ≡ xs) where
+  pub find_map_listed : (g : Mut F (A × Unit {0}) (Option X)) (f : F) (t : B → Option X) (h : ℕ → Option X) (d : B) → ((k : ℕ) → k < length xs → t (get_or xs k d) ≡ h (suc k)) → ((x : A) (r : Option X) (q : F) → Called g f (x, tt) r q → (q ≡ f) × (r ≡ t (v x))) → (r : Option X) → SomeRun steps s (Finds g f r) → r ≡ seek h (length xs)
+  find_map_listed g f t h d is acts r (p, at, found) =
+      let items = subst (ItemsMapTo p v) (ap rest at ∙ left) (every p p.seen) in
+      find_map_seeks g f h (length xs) p (record {
+        few = items.0;
+        all = items.1;
+        keeps = λ x r q c. (acts x.0 r q c).0;
+        gives = λ k lt. gives (p.at k) k (get_or xs k d) (items.2 k d lt) (is k (omega (arith, items.0)));
+      }) r found
+    where
+      gives : (o : Option A) (k : ℕ) (y : B) → option_map v o ≡ Some y → t y ≡ h (suc k) → IsSomeAnd o (λ x. (r : Option X) (q : F) → Called g f (x, tt) r q → r ≡ h (suc k))
+      gives None k y e is = absurd (let z : ◌≡◌ {A = ℕ} 0 1 = cc in omega arith)
+      gives (Some x) k y e is = λ r q c. let same : v x ≡ y = cc in (acts x r q c).1 ∙ ap t same ∙ is
