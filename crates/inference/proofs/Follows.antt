@@ -1,9 +1,9 @@
 -- What the tests of a line that follows say. Assumes nothing.
-use Rattle.std.proofs.Common.{◌≡◌, ℕ, ◌≤◌, Bool, true, false, not, eqb, ltb, leb, List, arith}
+use Rattle.std.proofs.Common.{◌≡◌, ℕ, zero, suc, ◌≤◌, Bool, true, false, not, ◌&&◌, eqb, ltb, leb, List, refl, arith}
 use Rattle.std.proofs.lemmas.Bool.{and_parts, and_from, not-true, eqb-true, eqb-false, ltb-true, leb-true, lt-ltb, le-leb}
 use Rattle.memory.specs.declared.lines.Line.{Line}
 use Rattle.memory.specs.Runs.{Run, Known}
-use Rattle.inference.specs.Rules.{known, names_third, third_fits, by_rule, follows}
+use Rattle.inference.specs.Rules.{known, some, names_third, third_fits, by_rule, follows}
 
 module _ (R : Run) (a : ℕ) where
   pub known_is : known R a ≡ true → Known R a
@@ -31,3 +31,11 @@ following R ls l e =
 pub third_within : (R : Run) (b : Bool) (c : ℕ) → third_fits R b c ≡ true → c ≤ R.size
 third_within R true c e = (known_is R c e).within
 third_within R false c e = omega (arith, eqb-true c 0 e)
+
+-- of the records, those that pass
+pub some_known : (R : Run) (p : ℕ → Bool) → some (λ k. known R k && p k) R.size ≡ some p R.size
+some_known R p = go R.size (omega arith)
+  where
+    go : (n : ℕ) → n ≤ R.size → some (λ k. known R k && p k) n ≡ some p n
+    go zero le = refl
+    go (suc n) le = let e : known R (suc n) ≡ true = is_known R (suc n) (record { some = omega arith; within = le }) in cc (e, go n (omega arith))

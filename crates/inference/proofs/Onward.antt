@@ -28,11 +28,11 @@ reached_none R k ls =
 
 module _ (R : Run) (k : ℕ) (ls : List Line) (n : ℕ) (now : List Line) (h : Reached R k ls n now) where
   -- all that were asked for are listed
-  pub all_listed : k ≤ n → record { count = n; lines = now; opposed = false } ≡ list_lines R k ls
+  pub all_listed : k ≤ n → record { count = k; lines = now; opposed = false } ≡ list_lines R k ls
   unfolding list_lines
   all_listed le =
       let none : 0 ≡ k - n = omega arith in
-      let long : n ≡ n + 0 = omega arith in
+      let long : k ≡ n + 0 = omega (arith, h.0) in
       sym (h.1 ∙ ap (λ j. after_more n (list_lines R j now)) (sym none) ∙ (λ i. record { count = sym long i; lines = now; opposed = false }))
 
   module _ (lt : n < k) where
@@ -63,11 +63,11 @@ module _ (R : Run) (k : ℕ) (ls : List Line) (n : ℕ) (now : List Line) (h : R
             (l, onto ∙ ap (λ o. after_more n (list_next o now (λ more. list_lines R (k - (n + 1)) more))) is ∙ ap (λ x. after_more n (list_by x now l (λ more. list_lines R (k - (n + 1)) more))) test, t.1)
 
     -- and it is opposed to one before it
-    pub opposed_listed : (after : List Line) (b : Bool) → b ≡ true → Took (next R now) now after (Some b) → record { count = n + 1; lines = after; opposed = b } ≡ list_lines R k ls
+    pub opposed_listed : (after : List Line) (b : Bool) → b ≡ true → Took (next R now) now after (Some b) → record { count = n + 1; lines = after; opposed = true } ≡ list_lines R k ls
     opposed_listed after b yes' t =
         let r = one_listed after true (subst (λ x. Took (next R now) now after (Some x)) yes' t) in
         let same = r.2 in
-        (λ i. record { count = n + 1; lines = same i; opposed = yes' i }) ∙ sym r.1
+        (λ i. record { count = n + 1; lines = same i; opposed = true }) ∙ sym r.1
 
     -- or to none, and listing goes on
     pub reached_more : (after : List Line) (b : Bool) → b ≡ false → Took (next R now) now after (Some b) → Reached R k ls (n + 1) after

@@ -1,20 +1,15 @@
 -- The next line finds room, and so do those that are listed after it. Assumes nothing.
-use Rattle.std.proofs.Common.{◌≡◌, ℕ, ◌<◌, ◌≤◌, true, List, [], ◌∷◌, ◌++◌, length, Some, subst, arith, length-append}
+use Rattle.std.proofs.Common.{◌≡◌, ℕ, ◌<◌, ◌≤◌, true, List, [], ◌∷◌, ◌++◌, length, arith, length-append}
 use Rattle.memory.specs.declared.lines.Line.{Line}
 use Rattle.memory.specs.Limits.{most_lines, most_records}
 use Rattle.memory.specs.Runs.{Run}
 use Rattle.inference.specs.Listing.{Listing, Lists, enough, last, stop, onward}
-use Rattle.inference.specs.Next.{Next, next}
+use Rattle.inference.specs.Next.{fits}
 use Rattle.inference.specs.Paired.{paired}
-use Rattle.inference.proofs.Least.{next_is}
 use Rattle.inference.proofs.Pairs.{few_lines_64, paired_push}
 
-module _ (R : Run) (ls : List Line) (l : Line) (is : next R ls ≡ Some l) where
-  pub next_paired : (n : ℕ) → R.size ≤ n → paired n ls ≡ true → paired n (ls ++ l ∷ []) ≡ true
-  next_paired n few h = paired_push R n few ls l h (subst (Next R ls) is (next_is R ls)).0
-
-  pub room_left : R.size ≤ most_records → paired most_records ls ≡ true → length ls < most_lines
-  room_left few h = omega (arith, few_lines_64 64 (ls ++ l ∷ []) (omega arith) (next_paired 64 few h), length-append ls (l ∷ []))
+pub room_left : (R : Run) (ls : List Line) (l : Line) → R.size ≤ most_records → paired most_records ls ≡ true → fits R ls l ≡ true → length ls < most_lines
+room_left R ls l few h fit = omega (arith, few_lines_64 64 (ls ++ l ∷ []) (omega arith) (paired_push R 64 few ls l h fit), length-append ls (l ∷ []))
 
 pub lists_paired : {R : Run} {k : ℕ} {ls : List Line} {r : Listing} → Lists R k ls r → (n : ℕ) → R.size ≤ n → paired n ls ≡ true → paired n r.lines ≡ true
 lists_paired enough n few h = h

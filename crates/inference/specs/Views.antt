@@ -1,5 +1,5 @@
 -- What inference reasons from, as a run and a list of lines, and the list that it makes.
-use Rattle.std.specs.Prelude.{◌≡◌, ℕ, ◌<◌, ◌≤◌, Bool, List, [], ◌∷◌, ◌++◌, length, Some, None, Ok, Err, vec_items, Option, Result}
+use Rattle.std.specs.Prelude.{◌≡◌, ℕ, ◌<◌, ◌≤◌, Bool, List, [], ◌∷◌, ◌++◌, Some, None, Ok, Err, vec_items, Option, Result}
 use Rattle.memory.specs.declared.models.Model as model
 use Rattle.memory.specs.declared.clocks.Clock as clock
 use Rattle.memory.specs.declared.lines.Line.{Line}
@@ -12,27 +12,30 @@ use Rattle.memory.specs.Settings.{setting_of}
 use Rattle.inference.specs.declared.lines.Lines.{Lines}
 use Rattle.inference.specs.declared.lines.Listed.{Listed}
 use Rattle.inference.specs.declared.premises.Premises.{Premises}
+use Rattle.inference.specs.declared.runs.Run as records
 use Rattle.inference.specs.Listing.{Listing, list_lines}
 use Rattle.inference.specs.Worth.{opposes}
 
 module _ {M C : Type 0} {g : model.Ghosts M} {h : clock.Ghosts C} where
+  -- the model and the clock, by what models and clocks of their kinds say, and by their marks
+  abbrev pub setting_is : records.Run M C g h → Setting
+  setting_is r = setting_of g h r.setting.now
+
+  -- the run that the records make under them
+  abbrev pub run_is : records.Run M C g h → Run
+  run_is r = run_of (setting_is r) r.records.now
+
   abbrev pub records_in : Premises M C g h → List Record
-  records_in p = p.records.now
+  records_in p = p.run.records.now
 
   abbrev pub lines_in : Premises M C g h → List Line
   lines_in p = p.lines.now
 
-  -- a is the number of one of the records
-  abbrev pub Numbers : Premises M C g h → ℕ → Type 0
-  Numbers p a = (0 < a) × (a ≤ length (records_in p))
-
-  -- the model and the clock, by what models and clocks of their kinds say, and by their marks
   abbrev pub setting_in : Premises M C g h → Setting
-  setting_in p = setting_of g h p.setting.now
+  setting_in p = setting_is p.run
 
-  -- the run that the records make under them
   abbrev pub run_in : Premises M C g h → Run
-  run_in p = run_of (setting_in p) (records_in p)
+  run_in p = run_is p.run
 
 abbrev pub lines_of : Lines → List Line
 lines_of l = vec_items l.items

@@ -1,37 +1,23 @@
 // Listing lines.
-ghost use Rattle.std.specs.Prelude.{◌≡◌, ◌≤◌, [], length, IfOk};
-ghost use Rattle.memory.specs.Limits.{most_records};
+ghost use Rattle.std.specs.Prelude.{◌≡◌, [], IfOk};
 ghost use Rattle.memory.specs.Runs.{run_of};
 ghost use Rattle.memory.specs.Settings.{setting_of};
 ghost use Rattle.inference.specs.Listing.{list_lines, Lists, Out};
 ghost use Rattle.inference.specs.Next.{next as next_of};
-ghost use Rattle.inference.specs.Views.{lines_of, Took, listing as listing_of, Infers};
+ghost use Rattle.inference.specs.Views.{lines_of, Took, listing as listing_of, Infers, run_is};
 
 use crate::lines::{Lines, Listed};
 use crate::listing::is_listed;
 use crate::premises::Premises;
+use crate::runs::Run;
 use memory::clocks::Clock;
-use memory::limits::{MOST_LINES, MOST_RECORDS};
+use memory::limits::MOST_LINES;
 use memory::lines::Line;
 use memory::models::Model;
 use memory::records::Record;
 use memory::refusals::Refusal;
 use memory::settings::Setting;
 use std::alloc::{AllocError, Global};
-
-fn next_after<'a, M: Model, C: Clock>(
-    setting: &'a Setting<M, C>,
-    records: &'a [Record],
-    lines: &'a [Line],
-) -> Option<Line>
-    requires { length records.now ≤ most_records }
-    ensures { result ≡ next_of (run_of (setting_of M.Model C.Clock setting.now) records.now) lines.now }
-{
-    let Ok(premises) = Premises::new(setting, records, lines) else {
-        unreachable()
-    };
-    premises.next_line()
-}
 
 impl Lines {
     pub fn new(heap: Global) -> Result<Lines, AllocError>
@@ -54,44 +40,37 @@ impl Lines {
     }
 
     // Lists the next line, if there is one, and answers whether it is opposed to one before it.
-    fn list_next<M: Model, C: Clock>(
-        &mut self,
-        setting: &Setting<M, C>,
-        records: &[Record],
-    ) -> Option<bool>
-        requires { length records.now ≤ most_records }
-        ensures { Took (next_of (run_of (setting_of M.Model C.Clock setting.now) records.now) (lines_of self.old)) (lines_of self.old) (lines_of self.new) result }
+    fn list_next<M: Model, C: Clock>(&mut self, run: &Run<'_, M, C>) -> Option<bool>
+        ensures { Took (next_of (run_is run.now) (lines_of self.old)) (lines_of self.old) (lines_of self.new) result }
     {
-        let line = next_after(setting, records, self.as_slice())?;
+        let line = Premises::of(run, self.as_slice()).next_line()?;
         let opposed = is_listed(self.as_slice(), line.second, line.first);
         self.items.push_reserved(line);
         Some(opposed)
     }
 
-    fn list_up_to<M: Model, C: Clock>(
-        &mut self,
-        setting: &Setting<M, C>,
-        records: &[Record],
-        k: u64,
-    ) -> Listed
-        requires { length records.now ≤ most_records }
-        ensures { listing_of result (lines_of self.new) ≡ list_lines (run_of (setting_of M.Model C.Clock setting.now) records.now) k (lines_of self.old) }
+    fn list_up_to<M: Model, C: Clock>(&mut self, run: &Run<'_, M, C>, k: u64) -> Listed
+        ensures { listing_of result (lines_of self.new) ≡ list_lines (run_is run.now) k (lines_of self.old) }
     {
-        let mut count = 0;
-        while count < k {
-            let Some(opposed) = self.list_next(setting, records) else {
-                return Listed {
-                    count,
-                    opposed: false,
-                };
-            };
-            count += 1;
-            if opposed {
-                return Listed { count, opposed };
+        for count in 0..k {
+            match self.list_next(run) {
+                Some(false) => {}
+                Some(true) => {
+                    return Listed {
+                        count: count + 1,
+                        opposed: true,
+                    };
+                }
+                None => {
+                    return Listed {
+                        count,
+                        opposed: false,
+                    };
+                }
             }
         }
         Listed {
-            count,
+            count: k,
             opposed: false,
         }
     }
@@ -107,9 +86,7 @@ impl Lines {
         ensures lists { IfOk result (λ l. Lists (run_of (setting_of M.Model C.Clock setting.now) records.now) k (lines_of self.old) (listing_of l (lines_of self.new))) }
         ensures out { IfOk result (λ l. Out (run_of (setting_of M.Model C.Clock setting.now) records.now) k (listing_of l (lines_of self.new))) }
     {
-        if records.len() > MOST_RECORDS {
-            return Err(Refusal::Full);
-        }
-        Ok(self.list_up_to(setting, records, k))
+        let run = Run::new(setting, records)?;
+        Ok(self.list_up_to(&run, k))
     }
 }

@@ -2,10 +2,11 @@
 ghost use Rattle.std.specs.Prelude.{◌≡◌, ◌<◌, length, MatchResult};
 ghost use Rattle.memory.specs.Limits.{most_records};
 ghost use Rattle.memory.specs.declared.refusals.Refusal.TheVariants.{Full};
+ghost use Rattle.inference.specs.Views.{run_in, run_is, lines_in};
 
 use crate::premises::Premises;
+use crate::runs::Run;
 use memory::clocks::Clock;
-use memory::limits::MOST_RECORDS;
 use memory::lines::Line;
 use memory::models::Model;
 use memory::records::Record;
@@ -20,16 +21,21 @@ impl<'a, M: Model, C: Clock> Premises<'a, M, C> {
         lines: &'a [Line],
     ) -> Result<Premises<'a, M, C>, Refusal>
         ensures { MatchResult result
-            (λ p. (p.setting ≡ setting.entry) × (p.records ≡ records.entry) × (p.lines ≡ lines.entry))
+            (λ p. (p.run.setting ≡ setting.entry) × (p.run.records ≡ records.entry) × (p.lines ≡ lines.entry))
             (λ e. (e ≡ Full) × (most_records < length records.now)) }
     {
-        if records.len() > MOST_RECORDS {
-            return Err(Refusal::Full);
-        }
-        Ok(Premises {
-            setting,
-            records,
-            lines,
-        })
+        let run = Run::new(setting, records)?;
+        Ok(Premises { run, lines })
+    }
+
+    // The records of a run, with these lines.
+    pub(crate) fn of<'b: 'a>(run: &Run<'b, M, C>, lines: &'a [Line]) -> Premises<'a, M, C>
+        ensures run { run_in result ≡ run_is run.now }
+        ensures lines { lines_in result ≡ lines.now }
+    {
+        let setting: &'a Setting<M, C> = run.setting;
+        let records: &'a [Record] = run.records;
+        let run = Run { setting, records };
+        Premises { run, lines }
     }
 }

@@ -26,7 +26,7 @@ impl<M: Model, C: Clock> Premises<'_, M, C> {
     fn least_third(&self, rule: Rule, first: u8, second: u8) -> Option<Line>
         ensures { result ≡ seek (tried (run_in self.now) (lines_in self.now) rule first second) (length (records_in self.now)) }
     {
-        (1..=self.count()).find_map(|third| {
+        (1..=self.run.count()).find_map(|third| {
             self.if_fits(Line {
                 rule,
                 first,
@@ -57,13 +57,13 @@ impl<M: Model, C: Clock> Premises<'_, M, C> {
     fn least_of_first(&self, rule: Rule, first: u8) -> Option<Line>
         ensures { result ≡ least_of_first (run_in self.now) (lines_in self.now) rule first }
     {
-        (1..=self.count()).find_map(|second| self.least_of_pair(rule, first, second))
+        (1..=self.run.count()).find_map(|second| self.least_of_pair(rule, first, second))
     }
 
     fn least_of_rule(&self, rule: Rule) -> Option<Line>
         ensures { result ≡ least_of_rule (run_in self.now) (lines_in self.now) (Some rule) }
     {
-        (1..=self.count()).find_map(|first| self.least_of_first(rule, first))
+        (1..=self.run.count()).find_map(|first| self.least_of_first(rule, first))
     }
 
     fn least_of_number(&self, number: u8) -> Option<Line>

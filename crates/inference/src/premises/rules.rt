@@ -1,9 +1,10 @@
 // The seven rules.
-ghost use Rattle.std.specs.Prelude.{◌≡◌, true, length};
+ghost use Rattle.std.specs.Prelude.{◌≡◌, ◌&&◌, length};
+ghost use Rattle.memory.specs.Reading.{reads_from};
 ghost use Rattle.memory.specs.Runs.{at};
-ghost use Rattle.memory.specs.declared.lines.Rule.TheVariants.{Coherence, FromRead};
-ghost use Rattle.inference.specs.Rules.{known, reads_initial, rivals, overwritten, by_rule, names_third, third_fits, follows as follows_from};
-ghost use Rattle.inference.specs.Views.{records_in, lines_in, Numbers, setting_in, run_in};
+ghost use Rattle.inference.specs.Records.{initial, write_one, overwrites};
+ghost use Rattle.inference.specs.Rules.{known, listed, some, names_third, follows as follows_from};
+ghost use Rattle.inference.specs.Views.{records_in, lines_in, setting_in, run_in};
 ghost use Rattle.inference.specs.Worth.{Stays};
 
 use crate::listing::is_listed;
@@ -14,138 +15,64 @@ use memory::models::Model;
 use memory::reading::reads_from;
 use memory::records::Record;
 
+// A load of 0, and a store to its address.
+fn reads_initial(load: Record, store: Record) -> bool
+    ensures { result ≡ initial load store }
+{
+    load.kind.is_load() && load.value == 0 && store.kind.is_store() && store.address == load.address
+}
+
+// Two stores to one address.
+fn write_one(v: Record, w: Record) -> bool
+    ensures { result ≡ write_one v w }
+{
+    v.kind.is_store() && w.kind.is_store() && v.address == w.address
+}
+
 pub(super) fn has_third(rule: Rule) -> bool
     ensures { result ≡ names_third rule }
 {
-    match rule {
-        Rule::Coherence | Rule::Transitive => true,
-        Rule::Clock | Rule::Model | Rule::ReadsFrom | Rule::InitialRead | Rule::FromRead => false,
-    }
+    matches!(rule, Rule::Coherence | Rule::Transitive)
 }
 
 impl<M: Model, C: Clock> Premises<'_, M, C> {
-    pub(super) fn count(&self) -> u8
-        ensures { result ≡ length (records_in self.now) }
+    fn is_surely_earlier(&self, x: Record, y: Record) -> bool
+        ensures { result ≡ (setting_in self.now).earlier x.processor x.commit y.processor y.enter }
     {
-        self.records.len() as u8
-    }
-
-    fn is_record(&self, number: u8) -> bool
-        ensures { result ≡ known (run_in self.now) number }
-    {
-        0 < number && number <= self.count()
-    }
-
-    // The record with a number, from 1.
-    fn record(&self, number: u8) -> Record
-        requires { Numbers self.now number }
-        ensures { result ≡ at (records_in self.now) number }
-    {
-        self.records[number as usize - 1]
-    }
-
-    fn by_clock(&self, first: u8, second: u8) -> bool
-        requires first { Numbers self.now first }
-        requires second { Numbers self.now second }
-        ensures { result ≡ (run_in self.now).clock first second }
-    {
-        let x = self.record(first);
-        let y = self.record(second);
-        self.setting
+        self.run
+            .setting
             .clock
             .surely_earlier(x.processor, x.commit, y.processor, y.enter)
     }
 
-    fn by_model(&self, first: u8, second: u8) -> bool
-        requires first { Numbers self.now first }
-        requires second { Numbers self.now second }
-        ensures { result ≡ (run_in self.now).model first second }
+    // The load reads the store of this number, which is listed before the second, another store to that address.
+    fn is_overwritten(&self, load: Record, second: u8, y: Record, store: u8) -> bool
+        ensures { result ≡ (known (run_in self.now) store && overwrites (records_in self.now) (lines_in self.now) load second y store) }
     {
-        let x = self.record(first);
-        let y = self.record(second);
-        first < second && self.setting.keeps(x, y)
-    }
-
-    // A load of 0, and a store to its address.
-    fn by_initial_read(&self, load: u8, store: u8) -> bool
-        requires load { Numbers self.now load }
-        requires store { Numbers self.now store }
-        ensures { result ≡ reads_initial (run_in self.now) load store }
-    {
-        let x = self.record(load);
-        let w = self.record(store);
-        x.kind.is_load() && x.value == 0 && w.kind.is_store() && w.address == x.address
-    }
-
-    // Two different stores to one address.
-    fn are_rivals(&self, first: u8, second: u8) -> bool
-        requires first { Numbers self.now first }
-        requires second { Numbers self.now second }
-        ensures { result ≡ rivals (run_in self.now) first second }
-    {
-        let v = self.record(first);
-        let w = self.record(second);
-        v.kind.is_store() && w.kind.is_store() && v.address == w.address && first != second
-    }
-
-    // The load reads the second store, and the first is listed before the load.
-    fn by_coherence(&self, first: u8, second: u8, load: u8) -> bool
-        requires first { Numbers self.now first }
-        requires second { Numbers self.now second }
-        requires load { Numbers self.now load }
-        ensures { result ≡ by_rule (run_in self.now) (lines_in self.now) Coherence first second load }
-    {
-        reads_from(self.record(load), self.record(second))
-            && self.are_rivals(first, second)
-            && is_listed(self.lines, first, load)
-    }
-
-    // The load reads the store, which is listed before the second.
-    fn is_overwritten(&self, load: u8, second: u8, store: u8) -> bool
-        requires load { Numbers self.now load }
-        requires second { Numbers self.now second }
-        requires store { Numbers self.now store }
-        ensures { result ≡ overwritten (run_in self.now) (lines_in self.now) load second store }
-    {
-        reads_from(self.record(load), self.record(store))
-            && self.are_rivals(store, second)
-            && is_listed(self.lines, store, second)
-    }
-
-    fn by_from_read(&self, load: u8, second: u8) -> bool
-        requires load { Numbers self.now load }
-        requires second { Numbers self.now second }
-        ensures { result ≡ by_rule (run_in self.now) (lines_in self.now) FromRead load second 0 }
-    {
-        (1..=self.count()).any(|store| self.is_overwritten(load, second, store))
-    }
-
-    fn third_fits(&self, rule: Rule, third: u8) -> bool
-        ensures { result ≡ third_fits (run_in self.now) (names_third rule) third }
-    {
-        if has_third(rule) {
-            self.is_record(third)
-        } else {
-            third == 0
+        match self.run.record(store) {
+            Some(w) => reads_from(load, w)
+                && write_one(w, y)
+                && store != second
+                && is_listed(self.lines, store, second),
+            None => false,
         }
     }
 
-    // What the rule asks of the three records.
-    fn is_given(&self, line: Line) -> bool
-        requires first { Numbers self.now line.first }
-        requires second { Numbers self.now line.second }
-        requires third { third_fits (run_in self.now) (names_third line.rule) line.third ≡ true }
-        ensures { result ≡ by_rule (run_in self.now) (lines_in self.now) line.rule line.first line.second line.third }
+    fn by_from_read(&self, load: Record, second: u8, y: Record) -> bool
+        ensures { result ≡ some (overwrites (records_in self.now) (lines_in self.now) load second y) (length (records_in self.now)) }
     {
-        match line.rule {
-            Rule::Clock => self.by_clock(line.first, line.second),
-            Rule::Model => self.by_model(line.first, line.second),
-            Rule::ReadsFrom => reads_from(self.record(line.second), self.record(line.first)),
-            Rule::InitialRead => self.by_initial_read(line.first, line.second),
-            Rule::Coherence => self.by_coherence(line.first, line.second, line.third),
-            Rule::FromRead => self.by_from_read(line.first, line.second),
-            Rule::Transitive => is_listed(self.lines, line.first, line.third)
-                && is_listed(self.lines, line.third, line.second),
+        (1..=self.run.count()).any(|store| self.is_overwritten(load, second, y, store))
+    }
+
+    // The load reads the second, another store than the first to its address, and the first is listed before the load.
+    fn by_coherence(&self, line: Line, x: Record, y: Record) -> bool
+        ensures { result ≡ (known (run_in self.now) line.third && (reads_from (at (records_in self.now) line.third) y && (write_one x y && listed (lines_in self.now) line.first line.third))) }
+    {
+        match self.run.record(line.third) {
+            Some(load) => reads_from(load, y)
+                && write_one(x, y)
+                && is_listed(self.lines, line.first, line.third),
+            None => false,
         }
     }
 
@@ -153,11 +80,28 @@ impl<M: Model, C: Clock> Premises<'_, M, C> {
     pub(super) fn passes(&self, line: Line) -> bool
         ensures { result ≡ follows_from (run_in self.now) (lines_in self.now) line }
     {
-        self.is_record(line.first)
-            && self.is_record(line.second)
-            && line.first != line.second
-            && self.third_fits(line.rule, line.third)
-            && self.is_given(line)
+        let Line {
+            rule,
+            first,
+            second,
+            third,
+        } = line;
+        let (Some(x), Some(y)) = (self.run.record(first), self.run.record(second)) else {
+            return false;
+        };
+        first != second
+            && (has_third(rule) || third == 0)
+            && match rule {
+                Rule::Clock => self.is_surely_earlier(x, y),
+                Rule::Model => first < second && self.run.setting.keeps(x, y),
+                Rule::ReadsFrom => reads_from(y, x),
+                Rule::InitialRead => reads_initial(x, y),
+                Rule::Coherence => self.by_coherence(line, x, y),
+                Rule::FromRead => self.by_from_read(x, second, y),
+                Rule::Transitive => self.run.record(third).is_some()
+                    && is_listed(self.lines, first, third)
+                    && is_listed(self.lines, third, second),
+            }
     }
 
     // The line follows from the records and the lines. What follows from these records follows from them and any more.

@@ -1,10 +1,13 @@
-use Rattle.std.proofs.Common.{length, rules}
-use Rattle.inference.specs.Rules.{overwritten}
+use Rattle.std.proofs.Common.{ℕ, Bool, ◌&&◌, length, rules, ◌∙◌}
+use Rattle.inference.specs.Records.{overwrites}
+use Rattle.inference.specs.Rules.{known}
 use Rattle.inference.specs.Views.{records_in, lines_in, run_in}
+use Rattle.inference.proofs.Follows.{some_known}
 use Rattle.inference.proofs.Searches.{any_upto}
 use Rattle.inference.proofs.premises.Premises.by_from_read.Goals as goal
 
 pub returns : goal.returns
 returns g c =
     let self = c.args.self.now in
-    any_upto (length (records_in self)) _ (search rules) (search rules) (search rules) _ _ (overwritten (run_in self) (lines_in self) c.args.load c.args.second) (λ x r q k. search rules) _ c.any.ensures.runs
+    let p : ℕ → Bool = overwrites (records_in self) (lines_in self) c.args.load c.args.second c.args.y in
+    any_upto (length (records_in self)) _ (search rules) (search rules) (search rules) _ _ (λ k. known (run_in self) k && p k) (λ x r q k. search rules) _ c.any.ensures.runs ∙ some_known (run_in self) p
