@@ -9,7 +9,7 @@ use Rattle.memory.specs.Runs.{Run}
 use Rattle.inference.specs.Rules.{names_third, follows}
 use Rattle.inference.specs.Next.{fits, NoLarger, Next, or_else, seek, line_of, if_fits, tried, least_of_pair, least_of_first, least_of_rule, next}
 use Rattle.inference.proofs.Follows.{Following, following, third_within}
-use Rattle.inference.proofs.Loops.{Sought, sought}
+use Rattle.inference.proofs.Loops.{Sought, sought, none_some}
 
 pub rule_back : (r : Rule) → rule_at (rule_number r) ≡ Some r
 rule_back Clock = refl
@@ -53,9 +53,6 @@ numbered (suc (suc (suc (suc zero)))) some few = (InitialRead, refl)
 numbered (suc (suc (suc (suc (suc zero))))) some few = (Coherence, refl)
 numbered (suc (suc (suc (suc (suc (suc zero)))))) some few = (FromRead, refl)
 numbered (suc (suc (suc (suc (suc (suc (suc k))))))) some few = (Transitive, omega arith)
-
-none_some : {X : Type 0} (o : Option X) (x : X) → o ≡ None → o ≡ Some x → ⊥
-none_some o x p q = let z : ◌≡◌ {A = ℕ} 0 1 = cc in omega arith
 
 seek_none : {X : Type 0} (f : ℕ → Option X) (n : ℕ) → seek f n ≡ None → (k : ℕ) → 0 < k → k ≤ n → f k ≡ None
 seek_none f n e = subst (Sought f n) e (sought f n)

@@ -1,24 +1,14 @@
 -- What is listed where one line more is. Assumes nothing.
 use Rattle.std.proofs.Common.{◌≡◌, ℕ, Bool, true, false, ◌||◌, eqb, List, [], ◌∷◌, ◌++◌, refl, ap, ◌∙◌}
+use Rattle.std.proofs.lemmas.List.Folds.{list_any-append}
+use Rattle.std.proofs.Math.Bool.{or-false}
 use Rattle.std.proofs.lemmas.Bool.{and_from, or_left, or_right, eq-eqb}
 use Rattle.memory.specs.declared.lines.Line.{Line}
 use Rattle.inference.specs.Rules.{has_pair, listed}
 
 module _ (ls : List Line) (l : Line) where
   pub listed_push : (a b : ℕ) → listed (ls ++ l ∷ []) a b ≡ (listed ls a b || has_pair a b l)
-  listed_push a b = go ls
-    where
-      go : (ks : List Line) → listed (ks ++ l ∷ []) a b ≡ (listed ks a b || has_pair a b l)
-      go [] = or_none (has_pair a b l)
-        where
-          or_none : (x : Bool) → (x || false) ≡ x
-          or_none true = refl
-          or_none false = refl
-      go (k ∷ ks) = ap (λ x. has_pair a b k || x) (go ks) ∙ or_assoc (has_pair a b k) (listed ks a b) (has_pair a b l)
-        where
-          or_assoc : (x y z : Bool) → (x || (y || z)) ≡ ((x || y) || z)
-          or_assoc true y z = refl
-          or_assoc false y z = refl
+  listed_push a b = list_any-append (has_pair a b) ls (l ∷ []) ∙ ap (λ x. listed ls a b || x) (or-false (has_pair a b l))
 
   pub listed_still : (a b : ℕ) → listed ls a b ≡ true → listed (ls ++ l ∷ []) a b ≡ true
   listed_still a b h = listed_push a b ∙ or_left (listed ls a b) (has_pair a b l) h

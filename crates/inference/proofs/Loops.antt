@@ -1,21 +1,8 @@
--- Loops that look for the first of 1 to n that gives something, or for one that passes. Assumes nothing.
+-- The first of 1 to n that gives something, and one that passes. Assumes nothing.
 use Rattle.std.proofs.Common.{◌≡◌, ℕ, zero, suc, ◌+◌, ◌<◌, ◌≤◌, Bool, true, false, Some, None, Option, sym, refl, ap, ◌∙◌, subst, ⊎_elim, add-one, arith}
 use Rattle.std.proofs.lemmas.Bool.{or_cases, or_from, or_left, or_right, both_ways, cases_eq, cases_lt}
 use Rattle.inference.specs.Next.{or_else, seek}
 use Rattle.inference.specs.Rules.{some}
-
--- the first that gives something: none has up to i
-module _ {X : Type 0} (f : ℕ → Option X) (i : ℕ) (before : seek f i ≡ None) where
-  seek_next : seek f (suc i) ≡ f (i + 1)
-  seek_next = ap (λ o. or_else o (f (suc i))) before ∙ ap f (sym (add-one i))
-
-  pub seek_more : f (i + 1) ≡ None → seek f (i + 1) ≡ None
-  seek_more no' = ap (seek f) (add-one i) ∙ seek_next ∙ no'
-
-  pub seek_here : (n : ℕ) (x : X) → i < n → f (i + 1) ≡ Some x → seek f n ≡ Some x
-  seek_here zero x lt yes' = absurd (omega arith)
-  seek_here (suc n) x lt yes' =
-      ⊎_elim (λ e. ap (seek f) (sym e) ∙ seek_next ∙ yes') (λ e. ap (λ o. or_else o (f (suc n))) (seek_here n x (omega arith) yes')) (cases_eq (suc i) (suc n))
 
 -- what `seek` gives
 abbrev pub Sought : {X : Type 0} → (ℕ → Option X) → ℕ → Option X → Type 0
@@ -45,25 +32,18 @@ some_from p zero k more under e = absurd (omega arith)
 some_from p (suc n) k more under e =
     ⊎_elim (λ q. or_left (p (suc n)) (some p n) (subst (λ j. p j ≡ true) q e)) (λ q. or_right (p (suc n)) (some p n) (some_from p n k more (omega arith) e)) (cases_eq k (suc n))
 
-module _ (p : ℕ → Bool) (i : ℕ) where
-  pub some_more : some p i ≡ false → p (i + 1) ≡ false → some p (i + 1) ≡ false
-  some_more before no' = ap (some p) (add-one i) ∙ or_from (p (suc i)) (some p i) (ap p (sym (add-one i)) ∙ no') before
-
-  pub some_here : (n : ℕ) → i < n → p (i + 1) ≡ true → some p n ≡ true
-  some_here n lt yes' = some_from p n (i + 1) (omega arith) (omega arith) yes'
+pub none_some : {X : Type 0} (o : Option X) (x : X) → o ≡ None → o ≡ Some x → ⊥
+none_some o x p q = cc (p, q)
 
 -- what is sought is there once
 pub sought_once : {X : Type 0} (f : ℕ → Option X) (n : ℕ) (r : Option X) → Sought f n r → r ≡ seek f n
 sought_once {X} f n r s = go r (seek f n) s (sought f n)
   where
-    clash : (o : Option X) (x : X) → o ≡ None → o ≡ Some x → ⊥
-    clash o x p q = cc (p, q)
-
     go : (a b : Option X) → Sought f n a → Sought f n b → a ≡ b
     go None None a b = refl
-    go None (Some y) a b = absurd (clash _ y (a b.0 b.1 b.2) b.3)
-    go (Some x) None a b = absurd (clash _ x (b a.0 a.1 a.2) a.3)
+    go None (Some y) a b = absurd (none_some _ y (a b.0 b.1 b.2) b.3)
+    go (Some x) None a b = absurd (none_some _ x (b a.0 a.1 a.2) a.3)
     go (Some x) (Some y) a b =
-        ⊎_elim (λ lt. absurd (clash _ x (b.4 a.0 a.1 lt) a.3))
-        (λ ge. ⊎_elim (λ gt. absurd (clash _ y (a.4 b.0 b.1 gt) b.3)) (λ le. let same : a.0 ≡ b.0 = omega arith in cc (same, a.3, b.3)) (cases_lt b.0 a.0))
+        ⊎_elim (λ lt. absurd (none_some _ x (b.4 a.0 a.1 lt) a.3))
+        (λ ge. ⊎_elim (λ gt. absurd (none_some _ y (a.4 b.0 b.1 gt) b.3)) (λ le. let same : a.0 ≡ b.0 = omega arith in cc (same, a.3, b.3)) (cases_lt b.0 a.0))
         (cases_lt a.0 b.0)

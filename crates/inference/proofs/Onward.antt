@@ -50,14 +50,14 @@ module _ (R : Run) (k : ℕ) (ls : List Line) (n : ℕ) (now : List Line) (h : R
             let long : n ≡ n + 0 = omega arith in
             let same = t.1 in
             sym (onto ∙ ap (λ o. after_more n (list_next o now (λ more. list_lines R (k - (n + 1)) more))) is ∙ (λ i. record { count = sym long i; lines = sym same i; opposed = false }))
-        go (Some l) is t = let z : ◌≡◌ {A = ℕ} 0 1 = let e = t.0 in cc in absurd (omega arith)
+        go (Some l) is t = absurd (cc t.0)
 
     -- one was listed
     one_listed : (after : List Line) (b : Bool) → Took (next R now) now after (Some b) → (l : Line) × (list_lines R k ls ≡ after_more n (list_by b now l (λ more. list_lines R (k - (n + 1)) more))) × (after ≡ now ++ l ∷ [])
     one_listed after b t = go (next R now) refl t
       where
         go : (o : Option Line) → next R now ≡ o → Took o now after (Some b) → (l : Line) × (list_lines R k ls ≡ after_more n (list_by b now l (λ more. list_lines R (k - (n + 1)) more))) × (after ≡ now ++ l ∷ [])
-        go None is t = let z : ◌≡◌ {A = ℕ} 0 1 = let e = t.0 in cc in absurd (omega arith)
+        go None is t = absurd (cc t.0)
         go (Some l) is t =
             let test : opposes now l ≡ b = let e = t.0 in cc in
             (l, onto ∙ ap (λ o. after_more n (list_next o now (λ more. list_lines R (k - (n + 1)) more))) is ∙ ap (λ x. after_more n (list_by x now l (λ more. list_lines R (k - (n + 1)) more))) test, t.1)

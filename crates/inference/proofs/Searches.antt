@@ -81,7 +81,7 @@ module _ {F R : Type 0} (g : Mut F (ℕ × Unit {0}) R) (f : F) (h : ℕ → R) 
       }
     where
       at : (o : Option ℕ) (x : ℕ) {k : ℕ} → x ≡ suc k → option_map (λ y. y) o ≡ Some x → IsSomeAnd o (λ x. (r : R) (q : F) → Called g f (x, tt) r q → r ≡ h (suc k))
-      at None x e is = absurd (let z : ◌≡◌ {A = ℕ} 0 1 = cc in omega arith)
+      at None x e is = absurd (cc is)
       at (Some y) x {k} e is = λ r q c. (acts y r q c).1 ∙ ap h (cc)
 
 module _ {F : Type 0} (n : ℕ) (s : RangeInclusive ℕ) (start : range_inclusive_start s ≡ 1) (end : range_inclusive_end s ≡ n) (unspent : range_inclusive_exhausted s ≡ false) where
@@ -104,5 +104,5 @@ module _ {S A B F X : Type 0} {steps : S → Option A → S → Type 0} (v : A �
       }) r found
     where
       gives : (o : Option A) (k : ℕ) (y : B) → option_map v o ≡ Some y → t y ≡ h (suc k) → IsSomeAnd o (λ x. (r : Option X) (q : F) → Called g f (x, tt) r q → r ≡ h (suc k))
-      gives None k y e is = absurd (let z : ◌≡◌ {A = ℕ} 0 1 = cc in omega arith)
+      gives None k y e is = absurd (cc e)
       gives (Some x) k y e is = λ r q c. let same : v x ≡ y = cc in (acts x r q c).1 ∙ ap t same ∙ is

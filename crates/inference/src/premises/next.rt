@@ -1,6 +1,5 @@
 // The next line.
 ghost use Rattle.std.specs.Prelude.{◌≡◌, length, Some};
-ghost use Rattle.memory.specs.Numbers.{rule_at};
 ghost use Rattle.inference.specs.Next.{fits, if_fits, tried, seek, least_of_pair, least_of_first, least_of_rule, next as next_of, Next};
 ghost use Rattle.inference.specs.Views.{records_in, lines_in, run_in};
 
@@ -16,11 +15,8 @@ impl<M: Model, C: Clock> Premises<'_, M, C> {
     fn if_fits(&self, line: Line) -> Option<Line>
         ensures { result ≡ if_fits (fits (run_in self.now) (lines_in self.now) line) line }
     {
-        if self.passes(line) && !is_listed(self.lines, line.first, line.second) {
-            Some(line)
-        } else {
-            None
-        }
+        let fits = self.passes(line) && !is_listed(self.lines, line.first, line.second);
+        fits.then_some(line)
     }
 
     fn least_third(&self, rule: Rule, first: u8, second: u8) -> Option<Line>
@@ -66,23 +62,11 @@ impl<M: Model, C: Clock> Premises<'_, M, C> {
         (1..=self.run.count()).find_map(|first| self.least_of_first(rule, first))
     }
 
-    fn least_of_number(&self, number: u8) -> Option<Line>
-        ensures { result ≡ least_of_rule (run_in self.now) (lines_in self.now) (rule_at number) }
-    {
-        self.least_of_rule(Rule::try_from(number).ok()?)
-    }
-
-    fn least(&self) -> Option<Line>
-        ensures { result ≡ next_of (run_in self.now) (lines_in self.now) }
-    {
-        Rule::ALL.iter().find_map(|rule| self.least_of_rule(*rule))
-    }
-
     // The least line that follows and whose pair is new.
     pub fn next_line(&self) -> Option<Line>
         ensures value { result ≡ next_of (run_in self.now) (lines_in self.now) }
         ensures least { Next (run_in self.now) (lines_in self.now) result }
     {
-        self.least()
+        Rule::ALL.iter().find_map(|rule| self.least_of_rule(*rule))
     }
 }

@@ -49,13 +49,12 @@ impl<M: Model, C: Clock> Premises<'_, M, C> {
     fn is_overwritten(&self, load: Record, second: u8, y: Record, store: u8) -> bool
         ensures { result ≡ (known (run_in self.now) store && overwrites (records_in self.now) (lines_in self.now) load second y store) }
     {
-        match self.run.record(store) {
-            Some(w) => reads_from(load, w)
+        self.run.record(store).is_some_and(|w| {
+            reads_from(load, w)
                 && write_one(w, y)
                 && store != second
-                && is_listed(self.lines, store, second),
-            None => false,
-        }
+                && is_listed(self.lines, store, second)
+        })
     }
 
     fn by_from_read(&self, load: Record, second: u8, y: Record) -> bool
@@ -68,12 +67,9 @@ impl<M: Model, C: Clock> Premises<'_, M, C> {
     fn by_coherence(&self, line: Line, x: Record, y: Record) -> bool
         ensures { result ≡ (known (run_in self.now) line.third && (reads_from (at (records_in self.now) line.third) y && (write_one x y && listed (lines_in self.now) line.first line.third))) }
     {
-        match self.run.record(line.third) {
-            Some(load) => reads_from(load, y)
-                && write_one(x, y)
-                && is_listed(self.lines, line.first, line.third),
-            None => false,
-        }
+        self.run.record(line.third).is_some_and(|load| {
+            reads_from(load, y) && write_one(x, y) && is_listed(self.lines, line.first, line.third)
+        })
     }
 
     // The line names two different records and a third as its rule does, and the rule gives it.
