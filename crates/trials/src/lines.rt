@@ -49,10 +49,7 @@ fn are_lines(rt: &impl Abort, lines: &Lines, rows: &[Numbers]) {
 
 // How many lines were listed and whether the last is opposed, or the refusal's number.
 fn listed(r: Result<Listed, Refusal>) -> Result<(u64, bool), u8> {
-    match r {
-        Ok(l) => Ok((l.count, l.opposed)),
-        Err(refusal) => Err(u8::from(refusal)),
-    }
+    r.map(|l| (l.count, l.opposed)).map_err(u8::from)
 }
 
 // Listing to the end from no lines lists these; the last is opposed where it is said.

@@ -5,31 +5,27 @@ use wire::faults::ByteFault;
 use wire::fields::{Field, Part, Reader, Text};
 use wire::writing::{Paper, PaperHead, write_notice, write_paper};
 
-// A field's name, place and content; or a fault and its place.
-type Seen<'a> = (&'static str, usize, &'a [u8]);
+// A field's name, place and content; or the place of a fault.
+type Seen<'a> = Result<(&'static str, usize, &'a [u8]), usize>;
 
 fn part<'a>(name: &'static str, p: Part<'a>) -> Seen<'a> {
-    (name, p.place, p.content)
+    Ok((name, p.place, p.content))
 }
 
 fn seen<'a>(r: Result<Field<'a>, ByteFault>) -> Seen<'a> {
-    match r {
-        Ok(Field::Head(p)) => part("head", p),
-        Ok(Field::Record(p)) => part("record", p),
-        Ok(Field::Line(p)) => part("line", p),
-        Ok(Field::Order(p)) => part("order", p),
-        Ok(Field::Orphan(p)) => part("orphan", p),
-        Ok(Field::End { place }) => ("end", place, &[]),
-        Err(e) => ("fault", e.place, &[]),
+    match r.map_err(|e| e.place)? {
+        Field::Head(p) => part("head", p),
+        Field::Record(p) => part("record", p),
+        Field::Line(p) => part("line", p),
+        Field::Order(p) => part("order", p),
+        Field::Orphan(p) => part("orphan", p),
+        Field::End { place } => Ok(("end", place, &[])),
     }
 }
 
 // The place of the first byte that is left, if one is.
 fn rest(reader: &Reader<'_>) -> Option<usize> {
-    match reader.finish() {
-        Ok(()) => None,
-        Err(e) => Some(e.place),
-    }
+    reader.finish().err().map(|e| e.place)
 }
 
 // A head at 0, lines at 7 and 14, an order at 21, an orphan at 26, an end at 30.
@@ -42,15 +38,15 @@ const PAPER: [u8; 33] = [
 fn a_paper_is_read_field_by_field(rt: HostRuntime) {
     let mut reader = Reader::over(Text::Paper, &PAPER);
     assert_eq!(rt; rest(&reader), Some(0));
-    assert_eq!(rt; seen(reader.next()), ("head", 0, &[2, 1, 1, 9][..]));
-    assert_eq!(rt; seen(reader.next()), ("line", 7, &[1, 2, 3, 4][..]));
-    assert_eq!(rt; seen(reader.next()), ("line", 14, &[5, 6, 7, 8][..]));
+    assert_eq!(rt; seen(reader.next()), Ok(("head", 0, &[2, 1, 1, 9][..])));
+    assert_eq!(rt; seen(reader.next()), Ok(("line", 7, &[1, 2, 3, 4][..])));
+    assert_eq!(rt; seen(reader.next()), Ok(("line", 14, &[5, 6, 7, 8][..])));
     assert_eq!(rt; rest(&reader), Some(21));
-    assert_eq!(rt; seen(reader.next()), ("order", 21, &[11, 12][..]));
-    assert_eq!(rt; seen(reader.next()), ("orphan", 26, &[13][..]));
-    assert_eq!(rt; seen(reader.next()), ("end", 30, &[][..]));
+    assert_eq!(rt; seen(reader.next()), Ok(("order", 21, &[11, 12][..])));
+    assert_eq!(rt; seen(reader.next()), Ok(("orphan", 26, &[13][..])));
+    assert_eq!(rt; seen(reader.next()), Ok(("end", 30, &[][..])));
     assert_eq!(rt; rest(&reader), None);
-    assert_eq!(rt; seen(reader.next()), ("fault", 33, &[][..]));
+    assert_eq!(rt; seen(reader.next()), Err(33));
 }
 
 // The first field of a paper.
@@ -61,26 +57,30 @@ fn first(bytes: &[u8]) -> Seen<'_> {
 
 // It has this name, stands at 0 and has no content.
 fn first_is(rt: &impl Abort, bytes: &[u8], name: &'static str) {
-    assert_eq!(rt; first(bytes), (name, 0, &[][..]), "{bytes:?}");
+    assert_eq!(rt; first(bytes), Ok((name, 0, &[][..])), "{bytes:?}");
+}
+
+fn first_fails(rt: &impl Abort, bytes: &[u8]) {
+    assert_eq!(rt; first(bytes), Err(0), "{bytes:?}");
 }
 
 #[test]
 fn a_paper_has_no_field_of_a_run_and_no_end_with_content(rt: HostRuntime) {
     first_is(&rt, &[0x1f, 0, 0], "end");
-    first_is(&rt, &[0x1f, 0, 1, 7], "fault");
+    first_fails(&rt, &[0x1f, 0, 1, 7]);
     first_is(&rt, &[0x12, 0, 0], "order");
-    first_is(&rt, &[0x13, 0, 1], "fault");
-    first_is(&rt, &[0x12, 1, 0, 7], "fault");
-    first_is(&rt, &[0x1f, 0], "fault");
-    first_is(&rt, &[], "fault");
+    first_fails(&rt, &[0x13, 0, 1]);
+    first_fails(&rt, &[0x12, 1, 0, 7]);
+    first_fails(&rt, &[0x1f, 0]);
+    first_fails(&rt, &[]);
     for tag in [0x00, 0x01, 0x02, 0x03, 0x0f, 0x14, 0x1d, 0x1e, 0x20, 0xff] {
-        first_is(&rt, &[tag, 0, 0], "fault");
+        first_fails(&rt, &[tag, 0, 0]);
     }
     // a fault leaves the reader where it was
     let mut reader = Reader::over(Text::Paper, &[0x12, 0, 1, 5, 0x1f, 0, 1, 7]);
-    assert_eq!(rt; seen(reader.next()), ("order", 0, &[5][..]));
-    assert_eq!(rt; seen(reader.next()), ("fault", 4, &[][..]));
-    assert_eq!(rt; seen(reader.next()), ("fault", 4, &[][..]));
+    assert_eq!(rt; seen(reader.next()), Ok(("order", 0, &[5][..])));
+    assert_eq!(rt; seen(reader.next()), Err(4));
+    assert_eq!(rt; seen(reader.next()), Err(4));
     assert_eq!(rt; rest(&reader), Some(4));
 }
 

@@ -1,5 +1,5 @@
 // What sealing decides, and what a sealed or decided case refuses.
-use crate::tools::{Row, ScCase, admit_rows, admitted, entry, opened, sealed};
+use crate::tools::{Row, ScCase, admit_rows, admitted, decided, entry, told};
 use memory::clocks::GlobalClock;
 use memory::models::Sc;
 use memory::verdicts::verdict_number;
@@ -9,9 +9,9 @@ use std::test::Fail;
 // A sound record, one with a bad kind and a second sealing are all told the same.
 fn is_closed(rt: &impl Abort, case: &mut ScCase, refusal: u8, records: usize) {
     let want = (refusal, 2, records.saturating_add(1));
-    assert_eq!(rt; admitted(case.admit(entry(0, 2, 64, 9))), want);
-    assert_eq!(rt; admitted(case.admit(entry(0, 9, 64, 9))), want);
-    assert_eq!(rt; sealed(case.seal()), want);
+    assert_eq!(rt; admitted(case.admit(entry(0, 2, 64, 9))), Err(want));
+    assert_eq!(rt; admitted(case.admit(entry(0, 9, 64, 9))), Err(want));
+    assert_eq!(rt; decided(case.seal()), Err(want));
     assert_eq!(rt; case.records().len(), records);
 }
 
@@ -22,26 +22,23 @@ fn a_sealed_case_refuses_with_four_and_a_decided_one_with_three(
     let mut case = ScCase::new(rt.alloc(), Sc, GlobalClock)?;
     assert_eq!(rt; verdict_number(case.stage().verdict()), 0);
     // an empty case
-    assert_eq!(rt; sealed(case.seal()), (0, 0, 1));
+    assert_eq!(rt; decided(case.seal()), Ok((1, None)));
     is_closed(&rt, &mut case, 3, 0);
     assert_eq!(rt; verdict_number(case.stage().verdict()), 1);
-    // an orphan, its number as hundreds
-    assert_eq!(rt; opened(case.open(1)), (0, 0, 0));
+    // an orphan
+    assert_eq!(rt; told(case.open(1)), Ok(()));
     admit_rows(
         &rt,
         &mut case,
-        &[
-            ((0, 2, 16, 1, 0, 5), (0, 0, 1)),
-            ((0, 1, 16, 7, 10, 20), (0, 0, 2)),
-        ],
+        &[((0, 2, 16, 1, 0, 5), Ok(1)), ((0, 1, 16, 7, 10, 20), Ok(2))],
     );
-    assert_eq!(rt; sealed(case.seal()), (0, 0, 203));
+    assert_eq!(rt; decided(case.seal()), Ok((3, Some(2))));
     is_closed(&rt, &mut case, 3, 2);
     assert_eq!(rt; verdict_number(case.stage().verdict()), 3);
     // neither
-    assert_eq!(rt; opened(case.open(1)), (0, 0, 0));
-    assert_eq!(rt; admitted(case.admit(entry(0, 2, 16, 1))), (0, 0, 1));
-    assert_eq!(rt; sealed(case.seal()), (0, 0, 0));
+    assert_eq!(rt; told(case.open(1)), Ok(()));
+    assert_eq!(rt; admitted(case.admit(entry(0, 2, 16, 1))), Ok(1));
+    assert_eq!(rt; decided(case.seal()), Ok((0, None)));
     is_closed(&rt, &mut case, 4, 1);
     assert_eq!(rt; verdict_number(case.stage().verdict()), 0);
     Ok(())
@@ -49,19 +46,19 @@ fn a_sealed_case_refuses_with_four_and_a_decided_one_with_three(
 
 // Two processors: a load of a store that comes later and elsewhere, loads of 0, a store and a fence that nobody reads.
 const READ: [Row; 6] = [
-    ((0, 1, 16, 5, 10, 90), (0, 0, 1)),
-    ((0, 1, 32, 0, 10, 90), (0, 0, 2)),
-    ((0, 1, 16, 0, 10, 90), (0, 0, 3)),
-    ((1, 3, 0, 0, 10, 90), (0, 0, 4)),
-    ((1, 2, 16, 5, 10, 90), (0, 0, 5)),
-    ((0, 1, 16, 5, 10, 90), (0, 0, 6)),
+    ((0, 1, 16, 5, 10, 90), Ok(1)),
+    ((0, 1, 32, 0, 10, 90), Ok(2)),
+    ((0, 1, 16, 0, 10, 90), Ok(3)),
+    ((1, 3, 0, 0, 10, 90), Ok(4)),
+    ((1, 2, 16, 5, 10, 90), Ok(5)),
+    ((0, 1, 16, 5, 10, 90), Ok(6)),
 ];
 
 // Loads of what is stored elsewhere, or only loaded.
 const UNREAD: [Row; 3] = [
-    ((1, 2, 48, 6, 10, 90), (0, 0, 7)),
-    ((0, 1, 16, 6, 10, 90), (0, 0, 8)),
-    ((0, 1, 16, 6, 10, 90), (0, 0, 9)),
+    ((1, 2, 48, 6, 10, 90), Ok(7)),
+    ((0, 1, 16, 6, 10, 90), Ok(8)),
+    ((0, 1, 16, 6, 10, 90), Ok(9)),
 ];
 
 #[test]
@@ -69,18 +66,18 @@ fn sealing_tells_the_smallest_orphan_and_no_load_of_a_store_or_of_zero(
     rt: HostRuntime,
 ) -> Result<(), Fail> {
     let mut case = ScCase::new(rt.alloc(), Sc, GlobalClock)?;
-    assert_eq!(rt; opened(case.open(2)), (0, 0, 0));
+    assert_eq!(rt; told(case.open(2)), Ok(()));
     admit_rows(&rt, &mut case, &READ);
-    assert_eq!(rt; sealed(case.seal()), (0, 0, 0));
-    assert_eq!(rt; opened(case.open(2)), (0, 0, 0));
+    assert_eq!(rt; decided(case.seal()), Ok((0, None)));
+    assert_eq!(rt; told(case.open(2)), Ok(()));
     admit_rows(&rt, &mut case, &READ);
     admit_rows(&rt, &mut case, &UNREAD);
-    assert_eq!(rt; sealed(case.seal()), (0, 0, 803));
+    assert_eq!(rt; decided(case.seal()), Ok((3, Some(8))));
     // without its store the first load is one
-    assert_eq!(rt; opened(case.open(2)), (0, 0, 0));
-    assert_eq!(rt; admitted(case.admit(entry(0, 1, 16, 5))), (0, 0, 1));
-    assert_eq!(rt; admitted(case.admit(entry(1, 2, 16, 6))), (0, 0, 2));
-    assert_eq!(rt; admitted(case.admit(entry(1, 1, 32, 6))), (0, 0, 3));
-    assert_eq!(rt; sealed(case.seal()), (0, 0, 103));
+    assert_eq!(rt; told(case.open(2)), Ok(()));
+    assert_eq!(rt; admitted(case.admit(entry(0, 1, 16, 5))), Ok(1));
+    assert_eq!(rt; admitted(case.admit(entry(1, 2, 16, 6))), Ok(2));
+    assert_eq!(rt; admitted(case.admit(entry(1, 1, 32, 6))), Ok(3));
+    assert_eq!(rt; decided(case.seal()), Ok((3, Some(1))));
     Ok(())
 }

@@ -6,15 +6,20 @@ use memory::records::Entry;
 use memory::refusals::Fault;
 use memory::verdicts::{Verdict, verdict_number};
 use std::process::Abort;
-use wire::faults::RunFault;
 
 pub type ScCase = Case<Sc, GlobalClock>;
 
-// A refusal's number, layer and place; or 0, 0 and a number where the call passed.
-pub type Told = (u8, u8, usize);
+// A refusal's number, its layer's number, and its place.
+pub type Numbers = (u8, u8, usize);
 
-// Processor, kind, address, value, enter and commit, then what admission tells.
-pub type Row = ((u8, u8, u32, u64, u64, u64), Told);
+// What admission answers: the number of the record, or the refusal.
+pub type Admitted = Result<usize, Numbers>;
+
+// A verdict's number, and the record that it names.
+pub type Decided = (u8, Option<u8>);
+
+// Processor, kind, address, value, enter and commit, then what admission answers.
+pub type Row = ((u8, u8, u32, u64, u64, u64), Admitted);
 
 // Two processors, all readings 10 and 90: two stores on the first, two loads on the second.
 pub const MESSAGE: [u8; 141] = [
@@ -34,54 +39,26 @@ pub const ORPHAN: [u8; 75] = [
 
 pub const EMPTY: [u8; 9] = [0x01, 0, 3, 2, 1, 1, 0x03, 0, 0];
 
-pub fn fault_told(f: Fault) -> Told {
-    (u8::from(f.refusal), u8::from(f.layer), f.place)
+// What a call answers, or the numbers of its refusal.
+pub fn told<T: Drop, E: Into<Fault> + Drop>(r: Result<T, E>) -> Result<T, Numbers> {
+    r.map_err(|e| {
+        let f: Fault = e.into();
+        (u8::from(f.refusal), u8::from(f.layer), f.place)
+    })
 }
 
-// The number of the record, or the refusal.
-pub fn admitted(r: Result<u8, Fault>) -> Told {
-    match r {
-        Ok(n) => (0, 0, n as usize),
-        Err(f) => fault_told(f),
-    }
+pub fn admitted(r: Result<u8, Fault>) -> Admitted {
+    told(r).map(usize::from)
 }
 
-pub fn opened(r: Result<(), Fault>) -> Told {
-    match r {
-        Ok(()) => (0, 0, 0),
-        Err(f) => fault_told(f),
-    }
-}
-
-// The number of bytes, or the refusal.
-pub fn written(r: Result<usize, Fault>) -> Told {
-    match r {
-        Ok(n) => (0, 0, n),
-        Err(f) => fault_told(f),
-    }
-}
-
-// The verdict's number, and after it the orphan's as hundreds.
-pub fn verdict_told(v: Option<Verdict>) -> Told {
-    let orphan = match v {
-        Some(Verdict::Orphan(load)) => load as usize,
-        _ => 0,
-    };
-    (0, 0, orphan * 100 + verdict_number(v) as usize)
-}
-
-pub fn sealed(r: Result<Option<Verdict>, Fault>) -> Told {
-    match r {
-        Ok(v) => verdict_told(v),
-        Err(f) => fault_told(f),
-    }
-}
-
-pub fn loaded(r: Result<Option<Verdict>, RunFault>) -> Told {
-    match r {
-        Ok(v) => verdict_told(v),
-        Err(f) => fault_told(f.into()),
-    }
+pub fn decided<E: Into<Fault> + Drop>(r: Result<Option<Verdict>, E>) -> Result<Decided, Numbers> {
+    told(r).map(|verdict| {
+        let named = match verdict {
+            Some(Verdict::Orphan(load)) => Some(load),
+            _ => None,
+        };
+        (verdict_number(verdict), named)
+    })
 }
 
 // An entry with readings 10 and 90.

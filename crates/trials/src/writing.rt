@@ -1,7 +1,5 @@
 // The bytes that a case writes, and what it refuses to write.
-use crate::tools::{
-    EMPTY, MESSAGE, ORPHAN, Row, ScCase, admit_rows, loaded, opened, sealed, written,
-};
+use crate::tools::{EMPTY, MESSAGE, ORPHAN, Row, ScCase, admit_rows, decided, told};
 use case::cases::Case;
 use memory::clocks::{GlobalClock, NoClock};
 use memory::models::{Godson, Sc};
@@ -17,27 +15,24 @@ pub fn is_old(rt: &impl Abort, bytes: &[u8]) {
     }
 }
 
-const ORPHANED: [Row; 2] = [
-    ((0, 2, 16, 1, 0, 5), (0, 0, 1)),
-    ((0, 1, 16, 7, 10, 20), (0, 0, 2)),
-];
+const ORPHANED: [Row; 2] = [((0, 2, 16, 1, 0, 5), Ok(1)), ((0, 1, 16, 7, 10, 20), Ok(2))];
 
 #[test]
 fn run_slip_and_paper_are_these_bytes_and_the_rest_is_kept(rt: HostRuntime) -> Result<(), Fail> {
     let mut case = ScCase::new(rt.alloc(), Sc, GlobalClock)?;
     admit_rows(&rt, &mut case, &ORPHANED);
     let mut out = [OLD; 80];
-    assert_eq!(rt; written(case.write_run(&mut out)), (0, 0, 75));
+    assert_eq!(rt; told(case.write_run(&mut out)), Ok(75));
     assert_eq!(rt; &out[0..75], &ORPHAN[..]);
     is_old(&rt, &out[75..80]);
     let mut out = [OLD; 20];
-    assert_eq!(rt; written(case.write_slip(&mut out)), (0, 0, 12));
+    assert_eq!(rt; told(case.write_slip(&mut out)), Ok(12));
     assert_eq!(rt; &out[0..12], &[0x1d, 0, 9, 0, 0, 0, 0, 0, 0, 0, 0, 0][..]);
-    assert_eq!(rt; sealed(case.seal()), (0, 0, 203));
-    assert_eq!(rt; written(case.write_slip(&mut out)), (0, 0, 12));
+    assert_eq!(rt; decided(case.seal()), Ok((3, Some(2))));
+    assert_eq!(rt; told(case.write_slip(&mut out)), Ok(12));
     assert_eq!(rt; &out[0..12], &[0x1d, 0, 9, 3, 0, 0, 0, 0, 0, 0, 0, 0][..]);
     is_old(&rt, &out[12..20]);
-    assert_eq!(rt; written(case.write_paper(&mut out)), (0, 0, 14));
+    assert_eq!(rt; told(case.write_paper(&mut out)), Ok(14));
     assert_eq!(rt;
         &out[0..14],
         &[0x10, 0, 4, 3, 1, 1, 2, 0x13, 0, 1, 2, 0x1f, 0, 0][..]
@@ -49,21 +44,21 @@ fn run_slip_and_paper_are_these_bytes_and_the_rest_is_kept(rt: HostRuntime) -> R
 #[test]
 fn one_byte_too_few_is_refused_and_nothing_is_written(rt: HostRuntime) -> Result<(), Fail> {
     let mut case = ScCase::new(rt.alloc(), Sc, GlobalClock)?;
-    assert_eq!(rt; loaded(case.load(&ORPHAN)), (0, 0, 203));
+    assert_eq!(rt; decided(case.load(&ORPHAN)), Ok((3, Some(2))));
     let mut run = [OLD; 74];
-    assert_eq!(rt; written(case.write_run(&mut run)), (15, 2, 3));
+    assert_eq!(rt; told(case.write_run(&mut run)), Err((15, 2, 3)));
     is_old(&rt, &run);
     let mut slip = [OLD; 11];
-    assert_eq!(rt; written(case.write_slip(&mut slip)), (15, 2, 3));
+    assert_eq!(rt; told(case.write_slip(&mut slip)), Err((15, 2, 3)));
     is_old(&rt, &slip);
     let mut paper = [OLD; 13];
-    assert_eq!(rt; written(case.write_paper(&mut paper)), (15, 2, 3));
+    assert_eq!(rt; told(case.write_paper(&mut paper)), Err((15, 2, 3)));
     is_old(&rt, &paper);
-    assert_eq!(rt; written(case.write_run(&mut [])), (15, 2, 3));
+    assert_eq!(rt; told(case.write_run(&mut [])), Err((15, 2, 3)));
     // exactly enough
-    assert_eq!(rt; written(case.write_run(&mut [OLD; 75])), (0, 0, 75));
-    assert_eq!(rt; written(case.write_slip(&mut [OLD; 12])), (0, 0, 12));
-    assert_eq!(rt; written(case.write_paper(&mut [OLD; 14])), (0, 0, 14));
+    assert_eq!(rt; told(case.write_run(&mut [OLD; 75])), Ok(75));
+    assert_eq!(rt; told(case.write_slip(&mut [OLD; 12])), Ok(12));
+    assert_eq!(rt; told(case.write_paper(&mut [OLD; 14])), Ok(14));
     Ok(())
 }
 
@@ -72,11 +67,11 @@ fn one_byte_too_few_is_refused_and_nothing_is_written(rt: HostRuntime) -> Result
 fn an_undecided_case_has_no_paper(rt: HostRuntime) -> Result<(), Fail> {
     let mut case = ScCase::new(rt.alloc(), Sc, GlobalClock)?;
     let mut out = [OLD; 40];
-    assert_eq!(rt; written(case.write_paper(&mut out)), (14, 2, 1));
-    assert_eq!(rt; written(case.write_paper(&mut [])), (14, 2, 1));
-    assert_eq!(rt; loaded(case.load(&MESSAGE)), (0, 0, 0));
-    assert_eq!(rt; written(case.write_paper(&mut out)), (14, 2, 5));
-    assert_eq!(rt; written(case.write_paper(&mut [])), (14, 2, 5));
+    assert_eq!(rt; told(case.write_paper(&mut out)), Err((14, 2, 1)));
+    assert_eq!(rt; told(case.write_paper(&mut [])), Err((14, 2, 1)));
+    assert_eq!(rt; decided(case.load(&MESSAGE)), Ok((0, None)));
+    assert_eq!(rt; told(case.write_paper(&mut out)), Err((14, 2, 5)));
+    assert_eq!(rt; told(case.write_paper(&mut [])), Err((14, 2, 5)));
     is_old(&rt, &out);
     Ok(())
 }
@@ -86,7 +81,7 @@ fn comes_back(rt: &impl Abort, case: &mut ScCase, run: &[u8]) {
     let mut out = [OLD; 200];
     assert!(rt; case.load(run).is_ok());
     assert!(rt; run.len() < 200);
-    assert_eq!(rt; written(case.write_run(&mut out)), (0, 0, run.len()));
+    assert_eq!(rt; told(case.write_run(&mut out)), Ok(run.len()));
     assert_eq!(rt; &out[0..run.len()], run);
 }
 
@@ -101,7 +96,7 @@ const WIDE: [Row; 4] = [
             0x2122232425262728,
             0x3132333435363738,
         ),
-        (0, 0, 1),
+        Ok(1),
     ),
     (
         (
@@ -112,10 +107,10 @@ const WIDE: [Row; 4] = [
             4611686018427387903,
             4611686018427387903,
         ),
-        (0, 0, 2),
+        Ok(2),
     ),
-    ((0, 3, 0, 0, 0, 0), (0, 0, 3)),
-    ((0, 2, 4294967295, 18446744073709551615, 0, 1), (0, 0, 4)),
+    ((0, 3, 0, 0, 0, 0), Ok(3)),
+    ((0, 2, 4294967295, 18446744073709551615, 0, 1), Ok(4)),
 ];
 
 #[test]
@@ -126,10 +121,10 @@ fn a_run_is_written_as_it_was_loaded_and_loads_as_it_was_written(
     comes_back(&rt, &mut case, &MESSAGE);
     comes_back(&rt, &mut case, &ORPHAN);
     comes_back(&rt, &mut case, &EMPTY);
-    assert_eq!(rt; opened(case.open(16)), (0, 0, 0));
+    assert_eq!(rt; told(case.open(16)), Ok(()));
     admit_rows(&rt, &mut case, &WIDE);
     let mut out = [OLD; 141];
-    assert_eq!(rt; written(case.write_run(&mut out)), (0, 0, 141));
+    assert_eq!(rt; told(case.write_run(&mut out)), Ok(141));
     assert_eq!(rt; &out[0..6], &[1, 0, 3, 16, 1, 1][..]);
     assert_eq!(rt;
         &out[9..23],
@@ -148,17 +143,17 @@ fn what_a_refused_loading_leaves_is_written(rt: HostRuntime) -> Result<(), Fail>
     let mut case = ScCase::new(rt.alloc(), Sc, GlobalClock)?;
     let mut out = [OLD; 75];
     let mut bytes = MESSAGE;
-    assert_eq!(rt; loaded(case.load(&ORPHAN)), (0, 0, 203));
+    assert_eq!(rt; decided(case.load(&ORPHAN)), Ok((3, Some(2))));
     // a head: the case as it was
     bytes[3] = 17;
-    assert_eq!(rt; loaded(case.load(&bytes)), (7, 2, 0));
-    assert_eq!(rt; written(case.write_run(&mut out)), (0, 0, 75));
+    assert_eq!(rt; decided(case.load(&bytes)), Err((7, 2, 0)));
+    assert_eq!(rt; told(case.write_run(&mut out)), Ok(75));
     assert_eq!(rt; &out[..], &ORPHAN[..]);
     // the third record: the two before it
     bytes[3] = 2;
     bytes[75] = 2;
-    assert_eq!(rt; loaded(case.load(&bytes)), (7, 2, 72));
-    assert_eq!(rt; written(case.write_run(&mut out)), (0, 0, 75));
+    assert_eq!(rt; decided(case.load(&bytes)), Err((7, 2, 72)));
+    assert_eq!(rt; told(case.write_run(&mut out)), Ok(75));
     assert_eq!(rt; &out[0..72], &MESSAGE[0..72]);
     assert_eq!(rt; &out[72..75], &MESSAGE[138..141]);
     Ok(())
@@ -170,14 +165,23 @@ fn a_case_writes_and_takes_only_the_marks_of_its_model_and_clock(
 ) -> Result<(), Fail> {
     let mut case = Case::new(rt.alloc(), Godson, NoClock)?;
     let mut out = [OLD; 20];
-    assert_eq!(rt; written(case.write_run(&mut out)), (0, 0, 9));
+    assert_eq!(rt; told(case.write_run(&mut out)), Ok(9));
     assert_eq!(rt; &out[0..9], &[1, 0, 3, 1, 3, 3, 3, 0, 0][..]);
-    assert_eq!(rt; loaded(case.load(&out[0..9])), (0, 0, 1));
-    assert_eq!(rt; loaded(case.load(&EMPTY)), (2, 2, 0));
-    assert_eq!(rt; loaded(case.load(&[1, 0, 3, 2, 3, 1, 3, 0, 0])), (2, 2, 0));
-    assert_eq!(rt; loaded(case.load(&[1, 0, 3, 2, 1, 3, 3, 0, 0])), (2, 2, 0));
+    assert_eq!(rt; decided(case.load(&out[0..9])), Ok((1, None)));
+    assert_eq!(rt; decided(case.load(&EMPTY)), Err((2, 2, 0)));
+    assert_eq!(rt;
+        decided(case.load(&[1, 0, 3, 2, 3, 1, 3, 0, 0])),
+        Err((2, 2, 0))
+    );
+    assert_eq!(rt;
+        decided(case.load(&[1, 0, 3, 2, 1, 3, 3, 0, 0])),
+        Err((2, 2, 0))
+    );
     assert_eq!(rt; case.processors(), 1);
-    assert_eq!(rt; loaded(case.load(&[1, 0, 3, 2, 3, 3, 3, 0, 0])), (0, 0, 1));
+    assert_eq!(rt;
+        decided(case.load(&[1, 0, 3, 2, 3, 3, 3, 0, 0])),
+        Ok((1, None))
+    );
     assert_eq!(rt; case.processors(), 2);
     Ok(())
 }
@@ -186,23 +190,23 @@ fn a_case_writes_and_takes_only_the_marks_of_its_model_and_clock(
 #[test]
 fn the_paper_of_an_empty_run_is_an_empty_order(rt: HostRuntime) -> Result<(), Fail> {
     let mut case = ScCase::new(rt.alloc(), Sc, GlobalClock)?;
-    assert_eq!(rt; loaded(case.load(&EMPTY)), (0, 0, 1));
-    assert_eq!(rt; written(case.write_paper(&mut [OLD; 12])), (15, 2, 1));
+    assert_eq!(rt; decided(case.load(&EMPTY)), Ok((1, None)));
+    assert_eq!(rt; told(case.write_paper(&mut [OLD; 12])), Err((15, 2, 1)));
     let mut out = [OLD; 16];
-    assert_eq!(rt; written(case.write_paper(&mut out)), (0, 0, 13));
+    assert_eq!(rt; told(case.write_paper(&mut out)), Ok(13));
     assert_eq!(rt;
         &out[0..13],
         &[0x10, 0, 4, 1, 1, 1, 0, 0x12, 0, 0, 0x1f, 0, 0][..]
     );
     is_old(&rt, &out[13..16]);
     let mut case = Case::new(rt.alloc(), Godson, NoClock)?;
-    assert_eq!(rt; sealed(case.seal()), (0, 0, 1));
-    assert_eq!(rt; written(case.write_paper(&mut out)), (0, 0, 13));
+    assert_eq!(rt; decided(case.seal()), Ok((1, None)));
+    assert_eq!(rt; told(case.write_paper(&mut out)), Ok(13));
     assert_eq!(rt;
         &out[0..13],
         &[0x10, 0, 4, 1, 3, 3, 0, 0x12, 0, 0, 0x1f, 0, 0][..]
     );
-    assert_eq!(rt; written(case.write_slip(&mut out)), (0, 0, 12));
+    assert_eq!(rt; told(case.write_slip(&mut out)), Ok(12));
     assert_eq!(rt; &out[0..12], &[0x1d, 0, 9, 1, 0, 0, 0, 0, 0, 0, 0, 0][..]);
     Ok(())
 }
