@@ -1,7 +1,5 @@
 // Which records a case takes, and which processors.
-use crate::tools::{Row, ScCase, admit_rows, admitted, decided, entry, told};
-use memory::clocks::GlobalClock;
-use memory::models::Sc;
+use crate::tools::{Row, SC, ScCase, admit_rows, admitted, decided, entry, told};
 use std::process::Abort;
 use std::test::Fail;
 
@@ -68,7 +66,7 @@ const SEVERAL: [Row; 13] = [
 
 #[test]
 fn the_first_broken_rule_is_told_and_its_border_passes(rt: HostRuntime) -> Result<(), Fail> {
-    let mut case = ScCase::new(rt.alloc(), Sc, GlobalClock)?;
+    let mut case = ScCase::new(rt.alloc(), SC)?;
     admit_rows(&rt, &mut case, &SEVERAL);
     assert_eq!(rt; case.records().len(), 1);
     assert_eq!(rt; told(case.open(2)), Ok(()));
@@ -86,7 +84,7 @@ fn fill(rt: &impl Abort, case: &mut ScCase) {
 // The run of the full case, with one more record in its bytes.
 #[test]
 fn sixty_four_records_are_admitted_and_no_more(rt: HostRuntime) -> Result<(), Fail> {
-    let mut case = ScCase::new(rt.alloc(), Sc, GlobalClock)?;
+    let mut case = ScCase::new(rt.alloc(), SC)?;
     fill(&rt, &mut case);
     assert_eq!(rt; admitted(case.admit(entry(0, 2, 16, 65))), Err((6, 2, 65)));
     // full comes before all that is wrong with the record
@@ -107,7 +105,7 @@ fn sixty_four_records_are_admitted_and_no_more(rt: HostRuntime) -> Result<(), Fa
 
 #[test]
 fn one_to_sixteen_processors_open_a_case(rt: HostRuntime) -> Result<(), Fail> {
-    let mut case = ScCase::new(rt.alloc(), Sc, GlobalClock)?;
+    let mut case = ScCase::new(rt.alloc(), SC)?;
     assert_eq!(rt; told(case.open(0)), Err((7, 2, 1)));
     assert_eq!(rt; admitted(case.admit(entry(0, 2, 16, 1))), Ok(1));
     assert_eq!(rt; told(case.open(0)), Err((7, 2, 2)));

@@ -1,4 +1,5 @@
 // Which lines are listed, in which order, and which oppose each other.
+use crate::tools::SC;
 use crate::writing::{OLD, is_old};
 use inference::lines::{Lines, Listed};
 use inference::premises::Premises;
@@ -15,11 +16,6 @@ use wire::writing::{Paper, PaperHead, write_paper};
 
 // More lines than any run has.
 const ALL: u64 = u64::MAX;
-
-const SC: Setting<Sc, GlobalClock> = Setting {
-    model: Sc,
-    clock: GlobalClock,
-};
 
 const SC_NO_CLOCK: Setting<Sc, NoClock> = Setting {
     model: Sc,

@@ -1,9 +1,7 @@
 // What loading tells of bytes, and what it leaves in the case.
 use crate::tools::{
-    Admitted, Decided, EMPTY, MESSAGE, Numbers, ORPHAN, ScCase, admitted, decided, entry, told,
+    Admitted, Decided, EMPTY, MESSAGE, Numbers, ORPHAN, SC, ScCase, admitted, decided, entry, told,
 };
-use memory::clocks::GlobalClock;
-use memory::models::Sc;
 use std::fmt::Display;
 use std::process::Abort;
 use std::test::Fail;
@@ -61,7 +59,7 @@ fn after_cut(left: usize) -> Admitted {
 fn a_run_cut_at_any_length_is_refused_at_the_field_that_is_cut(
     rt: HostRuntime,
 ) -> Result<(), Fail> {
-    let mut case = ScCase::new(rt.alloc(), Sc, GlobalClock)?;
+    let mut case = ScCase::new(rt.alloc(), SC)?;
     for n in 0..141 {
         let note = format_args!("cut to {n}");
         load_noted(
@@ -167,7 +165,7 @@ fn load_changed(rt: &impl Abort, case: &mut ScCase, changes: &[Change]) -> Resul
 fn a_byte_that_is_changed_is_told_at_its_field_and_what_came_before_stays(
     rt: HostRuntime,
 ) -> Result<(), Fail> {
-    let mut case = ScCase::new(rt.alloc(), Sc, GlobalClock)?;
+    let mut case = ScCase::new(rt.alloc(), SC)?;
     load_changed(&rt, &mut case, &SHAPES)?;
     load_changed(&rt, &mut case, &CONTENTS)
 }
@@ -175,7 +173,7 @@ fn a_byte_that_is_changed_is_told_at_its_field_and_what_came_before_stays(
 // No bytes, a run without its head, an end alone, and bytes behind the end.
 #[test]
 fn a_run_begins_with_its_head_and_ends_with_its_end(rt: HostRuntime) -> Result<(), Fail> {
-    let mut case = ScCase::new(rt.alloc(), Sc, GlobalClock)?;
+    let mut case = ScCase::new(rt.alloc(), SC)?;
     load_then_admit(&rt, &mut case, &[], Err((1, 1, 0)), AS_IT_WAS)?;
     load_then_admit(&rt, &mut case, &MESSAGE[6..141], Err((1, 1, 0)), AS_IT_WAS)?;
     load_then_admit(
@@ -207,7 +205,7 @@ fn a_run_begins_with_its_head_and_ends_with_its_end(rt: HostRuntime) -> Result<(
 // Marks come before processors, a field's shape before its content, and its content before the next field.
 #[test]
 fn loading_tells_the_first_of_several_faults(rt: HostRuntime) -> Result<(), Fail> {
-    let mut case = ScCase::new(rt.alloc(), Sc, GlobalClock)?;
+    let mut case = ScCase::new(rt.alloc(), SC)?;
     let mut bytes = MESSAGE;
     bytes[3] = 0;
     bytes[4] = 2;

@@ -1,7 +1,5 @@
 // What sealing decides, and what a sealed or decided case refuses.
-use crate::tools::{Row, ScCase, admit_rows, admitted, decided, entry, told};
-use memory::clocks::GlobalClock;
-use memory::models::Sc;
+use crate::tools::{Row, SC, ScCase, admit_rows, admitted, decided, entry, told};
 use memory::verdicts::verdict_number;
 use std::process::Abort;
 use std::test::Fail;
@@ -19,7 +17,7 @@ fn is_closed(rt: &impl Abort, case: &mut ScCase, refusal: u8, records: usize) {
 fn a_sealed_case_refuses_with_four_and_a_decided_one_with_three(
     rt: HostRuntime,
 ) -> Result<(), Fail> {
-    let mut case = ScCase::new(rt.alloc(), Sc, GlobalClock)?;
+    let mut case = ScCase::new(rt.alloc(), SC)?;
     assert_eq!(rt; verdict_number(case.stage().verdict()), 0);
     // an empty case
     assert_eq!(rt; decided(case.seal()), Ok((1, None)));
@@ -65,7 +63,7 @@ const UNREAD: [Row; 3] = [
 fn sealing_tells_the_smallest_orphan_and_no_load_of_a_store_or_of_zero(
     rt: HostRuntime,
 ) -> Result<(), Fail> {
-    let mut case = ScCase::new(rt.alloc(), Sc, GlobalClock)?;
+    let mut case = ScCase::new(rt.alloc(), SC)?;
     assert_eq!(rt; told(case.open(2)), Ok(()));
     admit_rows(&rt, &mut case, &READ);
     assert_eq!(rt; decided(case.seal()), Ok((0, None)));

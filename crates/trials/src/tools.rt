@@ -4,10 +4,16 @@ use memory::clocks::GlobalClock;
 use memory::models::Sc;
 use memory::records::Entry;
 use memory::refusals::Fault;
+use memory::settings::Setting;
 use memory::verdicts::{Verdict, verdict_number};
 use std::process::Abort;
 
 pub type ScCase = Case<Sc, GlobalClock>;
+
+pub const SC: Setting<Sc, GlobalClock> = Setting {
+    model: Sc,
+    clock: GlobalClock,
+};
 
 // A refusal's number, its layer's number, and its place.
 pub type Numbers = (u8, u8, usize);

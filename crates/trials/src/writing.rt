@@ -1,10 +1,16 @@
 // The bytes that a case writes, and what it refuses to write.
-use crate::tools::{EMPTY, MESSAGE, ORPHAN, Row, ScCase, admit_rows, decided, told};
+use crate::tools::{EMPTY, MESSAGE, ORPHAN, Row, SC, ScCase, admit_rows, decided, told};
 use case::cases::Case;
-use memory::clocks::{GlobalClock, NoClock};
-use memory::models::{Godson, Sc};
+use memory::clocks::NoClock;
+use memory::models::Godson;
+use memory::settings::Setting;
 use std::process::Abort;
 use std::test::Fail;
+
+const GODSON_NO_CLOCK: Setting<Godson, NoClock> = Setting {
+    model: Godson,
+    clock: NoClock,
+};
 
 // What the lent bytes hold before.
 pub const OLD: u8 = 0xaa;
@@ -19,7 +25,7 @@ const ORPHANED: [Row; 2] = [((0, 2, 16, 1, 0, 5), Ok(1)), ((0, 1, 16, 7, 10, 20)
 
 #[test]
 fn run_slip_and_paper_are_these_bytes_and_the_rest_is_kept(rt: HostRuntime) -> Result<(), Fail> {
-    let mut case = ScCase::new(rt.alloc(), Sc, GlobalClock)?;
+    let mut case = ScCase::new(rt.alloc(), SC)?;
     admit_rows(&rt, &mut case, &ORPHANED);
     let mut out = [OLD; 80];
     assert_eq!(rt; told(case.write_run(&mut out)), Ok(75));
@@ -43,7 +49,7 @@ fn run_slip_and_paper_are_these_bytes_and_the_rest_is_kept(rt: HostRuntime) -> R
 
 #[test]
 fn one_byte_too_few_is_refused_and_nothing_is_written(rt: HostRuntime) -> Result<(), Fail> {
-    let mut case = ScCase::new(rt.alloc(), Sc, GlobalClock)?;
+    let mut case = ScCase::new(rt.alloc(), SC)?;
     assert_eq!(rt; decided(case.load(&ORPHAN)), Ok((3, Some(2))));
     let mut run = [OLD; 74];
     assert_eq!(rt; told(case.write_run(&mut run)), Err((15, 2, 3)));
@@ -65,7 +71,7 @@ fn one_byte_too_few_is_refused_and_nothing_is_written(rt: HostRuntime) -> Result
 // Too few bytes come after it.
 #[test]
 fn an_undecided_case_has_no_paper(rt: HostRuntime) -> Result<(), Fail> {
-    let mut case = ScCase::new(rt.alloc(), Sc, GlobalClock)?;
+    let mut case = ScCase::new(rt.alloc(), SC)?;
     let mut out = [OLD; 40];
     assert_eq!(rt; told(case.write_paper(&mut out)), Err((14, 2, 1)));
     assert_eq!(rt; told(case.write_paper(&mut [])), Err((14, 2, 1)));
@@ -117,7 +123,7 @@ const WIDE: [Row; 4] = [
 fn a_run_is_written_as_it_was_loaded_and_loads_as_it_was_written(
     rt: HostRuntime,
 ) -> Result<(), Fail> {
-    let mut case = ScCase::new(rt.alloc(), Sc, GlobalClock)?;
+    let mut case = ScCase::new(rt.alloc(), SC)?;
     comes_back(&rt, &mut case, &MESSAGE);
     comes_back(&rt, &mut case, &ORPHAN);
     comes_back(&rt, &mut case, &EMPTY);
@@ -132,7 +138,7 @@ fn a_run_is_written_as_it_was_loaded_and_loads_as_it_was_written(
             15, 2, 1, 2, 3, 4, 0x11, 0x12, 0x13, 0x14, 0x15, 0x16, 0x17, 0x18
         ][..]
     );
-    let mut other = ScCase::new(rt.alloc(), Sc, GlobalClock)?;
+    let mut other = ScCase::new(rt.alloc(), SC)?;
     comes_back(&rt, &mut other, &out);
     assert_eq!(rt; (other.processors(), other.records().len()), (16, 4));
     Ok(())
@@ -140,7 +146,7 @@ fn a_run_is_written_as_it_was_loaded_and_loads_as_it_was_written(
 
 #[test]
 fn what_a_refused_loading_leaves_is_written(rt: HostRuntime) -> Result<(), Fail> {
-    let mut case = ScCase::new(rt.alloc(), Sc, GlobalClock)?;
+    let mut case = ScCase::new(rt.alloc(), SC)?;
     let mut out = [OLD; 75];
     let mut bytes = MESSAGE;
     assert_eq!(rt; decided(case.load(&ORPHAN)), Ok((3, Some(2))));
@@ -163,7 +169,7 @@ fn what_a_refused_loading_leaves_is_written(rt: HostRuntime) -> Result<(), Fail>
 fn a_case_writes_and_takes_only_the_marks_of_its_model_and_clock(
     rt: HostRuntime,
 ) -> Result<(), Fail> {
-    let mut case = Case::new(rt.alloc(), Godson, NoClock)?;
+    let mut case = Case::new(rt.alloc(), GODSON_NO_CLOCK)?;
     let mut out = [OLD; 20];
     assert_eq!(rt; told(case.write_run(&mut out)), Ok(9));
     assert_eq!(rt; &out[0..9], &[1, 0, 3, 1, 3, 3, 3, 0, 0][..]);
@@ -189,7 +195,7 @@ fn a_case_writes_and_takes_only_the_marks_of_its_model_and_clock(
 // Under each pair of marks, with one byte too few first.
 #[test]
 fn the_paper_of_an_empty_run_is_an_empty_order(rt: HostRuntime) -> Result<(), Fail> {
-    let mut case = ScCase::new(rt.alloc(), Sc, GlobalClock)?;
+    let mut case = ScCase::new(rt.alloc(), SC)?;
     assert_eq!(rt; decided(case.load(&EMPTY)), Ok((1, None)));
     assert_eq!(rt; told(case.write_paper(&mut [OLD; 12])), Err((15, 2, 1)));
     let mut out = [OLD; 16];
@@ -199,7 +205,7 @@ fn the_paper_of_an_empty_run_is_an_empty_order(rt: HostRuntime) -> Result<(), Fa
         &[0x10, 0, 4, 1, 1, 1, 0, 0x12, 0, 0, 0x1f, 0, 0][..]
     );
     is_old(&rt, &out[13..16]);
-    let mut case = Case::new(rt.alloc(), Godson, NoClock)?;
+    let mut case = Case::new(rt.alloc(), GODSON_NO_CLOCK)?;
     assert_eq!(rt; decided(case.seal()), Ok((1, None)));
     assert_eq!(rt; told(case.write_paper(&mut out)), Ok(13));
     assert_eq!(rt;
