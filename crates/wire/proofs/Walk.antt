@@ -1,8 +1,9 @@
 -- The fields of bytes, for a reader that stands at a place. Assumes nothing.
-use Rattle.std.proofs.Common.{◌≡◌, ℕ, zero, suc, ◌+◌, ◌*◌, ◌/◌, ◌%◌, ◌<◌, ◌≤◌, Bool, true, false, leb, List, [], ◌∷◌, ◌++◌, length, get_or, take, drop, sym, refl, ap, ◌∙◌, ⊎_elim, arith, length-take-le}
-use Rattle.std.proofs.lemmas.List.{drop_more, drop_all, drop-drop, length-drop, take-append-drop}
-use Rattle.std.proofs.lemmas.Bool.{le-leb, lt-leb, cases_lt}
-use Rattle.wire.specs.Fields.{whole, broken, piece_on, pieces_in, pieces, next_field}
+use Rattle.std.proofs.Common.{◌≡◌, ℕ, zero, suc, ◌+◌, ◌*◌, ◌/◌, ◌%◌, ◌<◌, ◌≤◌, Bool, true, false, leb, List, [], ◌∷◌, ◌++◌, length, get_or, take, drop, Err, sym, refl, ap, ◌∙◌, arith, length-take-le}
+use Rattle.std.proofs.lemmas.List.{drop-drop, length-drop, take-append-drop}
+use Rattle.std.proofs.lemmas.Bool.{le-leb, lt-leb}
+use Rattle.wire.specs.declared.fields.Text.{Text}
+use Rattle.wire.specs.Fields.{whole, broken, piece_on, pieces_in, pieces, next_field, fault_at}
 use Rattle.wire.specs.Framed.{Framed, Unframed}
 
 -- more fuel than there are bytes changes nothing
@@ -24,71 +25,55 @@ fuel (suc k) (suc j) (t ∷ a ∷ b ∷ bs) h g = go (leb n (length bs)) (fuel k
     go true e = ap (λ ps. whole t (take n bs) ∷ ps) e
     go false e = refl
 
--- the length of the field at a place
-abbrev pub size_at : List ℕ → ℕ → ℕ
-size_at bs at = get_or bs (at + 1) 0 * 256 + get_or bs (at + 2) 0
-
-three_on : (bs : List ℕ) (at : ℕ) → at + 3 ≤ length bs → drop at bs ≡ get_or bs at 0 ∷ get_or bs (at + 1) 0 ∷ get_or bs (at + 2) 0 ∷ drop (at + 3) bs
-three_on bs at h =
-    let two : at + 1 + 1 ≡ at + 2 = omega arith in
-    let three : at + 2 + 1 ≡ at + 3 = omega arith in
-    let c : drop (at + 2) bs ≡ get_or bs (at + 2) 0 ∷ drop (at + 3) bs = drop_more bs (at + 2) 0 (omega arith) ∙ ap (λ x. get_or bs (at + 2) 0 ∷ drop x bs) three in
-    let b : drop (at + 1) bs ≡ get_or bs (at + 1) 0 ∷ drop (at + 2) bs = drop_more bs (at + 1) 0 (omega arith) ∙ ap (λ x. get_or bs (at + 1) 0 ∷ drop x bs) two in
-    drop_more bs at 0 (omega arith) ∙ ap (λ x. get_or bs at 0 ∷ x) (b ∙ ap (λ x. get_or bs (at + 1) 0 ∷ x) c)
-
--- no byte is left
-pub next_none : (bs : List ℕ) (at : ℕ) → length bs ≤ at → pieces (drop at bs) ≡ []
+-- a field of h * 256 + l bytes is whole
+pub found_whole : (t h l : ℕ) (xs : List ℕ) → h * 256 + l ≤ length xs → pieces (t ∷ h ∷ l ∷ xs) ≡ whole t (take (h * 256 + l) xs) ∷ pieces (drop (h * 256 + l) xs)
 unfolding pieces
-next_none bs at h = ap pieces (drop_all at bs h)
+found_whole t h l xs fits =
+    let n : ℕ = h * 256 + l in
+    ap (λ z. piece_on z t (take n xs) (λ _. pieces_in (suc (suc (length xs))) (drop n xs))) (le-leb n (length xs) fits)
+    ∙ ap (λ ps. whole t (take n xs) ∷ ps) (fuel (suc (suc (length xs))) (length (drop n xs)) (drop n xs) (omega (arith, length-drop n xs)) (omega arith))
 
--- a whole field stands at the place
-pub next_whole : (bs : List ℕ) (at : ℕ) → at + 3 + size_at bs at ≤ length bs → pieces (drop at bs) ≡ whole (get_or bs at 0) (take (size_at bs at) (drop (at + 3) bs)) ∷ pieces (drop (at + 3 + size_at bs at) bs)
+-- it is cut short
+pub found_cut : (t h l : ℕ) (xs : List ℕ) → length xs < h * 256 + l → pieces (t ∷ h ∷ l ∷ xs) ≡ broken ∷ []
 unfolding pieces
-next_whole bs at h =
-    let n : ℕ = size_at bs at in
-    let t : ℕ = get_or bs at 0 in
-    let ys : List ℕ = drop (at + 3) bs in
-    let fits : n ≤ length ys = omega (arith, length-drop (at + 3) bs) in
-    ap pieces (three_on bs at (omega arith))
-    ∙ ap (λ z. piece_on z t (take n ys) (λ _. pieces_in (suc (suc (length ys))) (drop n ys))) (le-leb n (length ys) fits)
-    ∙ ap (λ ps. whole t (take n ys) ∷ ps) (fuel (suc (suc (length ys))) (length (drop n ys)) (drop n ys) (omega (arith, length-drop n ys)) (omega arith) ∙ ap pieces (drop-drop n (at + 3) bs))
+found_cut t h l xs short = let n : ℕ = h * 256 + l in ap (λ z. piece_on z t (take n xs) (λ _. pieces_in (suc (suc (length xs))) (drop n xs))) (lt-leb n (length xs) short)
 
--- a field is cut short
-pub next_cut : (bs : List ℕ) (at : ℕ) → at < length bs → length bs < at + 3 + size_at bs at → pieces (drop at bs) ≡ broken ∷ []
+-- three bytes stand at the front
+pub three : (xs front rest : List ℕ) → 3 ≤ length xs → front ≡ take 3 xs → rest ≡ drop 3 xs → xs ≡ get_or front 0 0 ∷ get_or front 1 0 ∷ get_or front 2 0 ∷ rest
+three [] front rest h a b = absurd (omega arith)
+three (x ∷ []) front rest h a b = absurd (omega arith)
+three (x ∷ y ∷ []) front rest h a b = absurd (omega arith)
+three (x ∷ y ∷ z ∷ xs) front rest h a b = let f = sym a in let r = sym b in λ i. get_or (f i) 0 0 ∷ get_or (f i) 1 0 ∷ get_or (f i) 2 0 ∷ r i
+
+-- fewer are no field
+no_field : (t : Text) (at : ℕ) (xs : List ℕ) → length xs < 3 → next_field t at (pieces xs) ≡ Err (fault_at at)
 unfolding pieces
-next_cut bs at some short = ⊎_elim (λ few. stub (drop at bs) (omega (arith, length-drop at bs)) (omega (arith, length-drop at bs))) (λ many. long (omega arith)) (cases_lt (length bs) (at + 3))
-  where
-    stub : (xs : List ℕ) → 0 < length xs → length xs < 3 → pieces xs ≡ broken ∷ []
-    stub [] h g = absurd (omega arith)
-    stub (a ∷ []) h g = refl
-    stub (a ∷ b ∷ []) h g = refl
-    stub (a ∷ b ∷ c ∷ xs) h g = absurd (omega arith)
+no_field t at [] h = refl
+no_field t at (a ∷ []) h = refl
+no_field t at (a ∷ b ∷ []) h = refl
+no_field t at (a ∷ b ∷ c ∷ xs) h = absurd (omega arith)
 
-    long : at + 3 ≤ length bs → pieces (drop at bs) ≡ broken ∷ []
-    long h =
-        let n : ℕ = size_at bs at in
-        let t : ℕ = get_or bs at 0 in
-        let ys : List ℕ = drop (at + 3) bs in
-        ap pieces (three_on bs at h) ∙ ap (λ z. piece_on z t (take n ys) (λ _. pieces_in (suc (suc (length ys))) (drop n ys))) (lt-leb n (length ys) (omega (arith, length-drop (at + 3) bs)))
+pub few : (bs : List ℕ) (at : ℕ) → length (drop at bs) < 3 → Unframed bs at
+few bs at h t = no_field t at (drop at bs) h
 
--- a field that is whole has its bytes at the place, and the other fields behind it
-pub framed : (bs : List ℕ) (at : ℕ) (content : List ℕ) → content ≡ take (size_at bs at) (drop (at + 3) bs) → at + 3 + size_at bs at ≤ length bs → get_or bs (at + 1) 0 < 256 → get_or bs (at + 2) 0 < 256 → Framed bs at (get_or bs at 0) content
-framed bs at content is h high low =
-    let n : ℕ = size_at bs at in
-    let ys : List ℕ = drop (at + 3) bs in
-    let tag : ℕ = get_or bs at 0 in
-    let long : length content ≡ n = ap length is ∙ length-take-le n ys (omega (arith, length-drop (at + 3) bs)) in
-    let a : get_or bs (at + 1) 0 ≡ length content / 256 % 256 = omega arith in
-    let b : get_or bs (at + 2) 0 ≡ length content % 256 = omega arith in
-    let back : drop n ys ≡ drop (at + 3 + length content) bs = drop-drop n (at + 3) bs ∙ ap (λ k. drop (at + 3 + k) bs) (sym long) in
-    let rest : ys ≡ content ++ drop (at + 3 + length content) bs = sym (take-append-drop n ys) ∙ (let front = sym is in λ i. front i ++ back i) in
-    record {
-      fits = omega arith;
-      bytes = three_on bs at (omega arith) ∙ (λ i. tag ∷ a i ∷ b i ∷ rest i);
-      pieces = next_whole bs at h ∙ (let front = sym is in let far = ap (λ k. at + 3 + k) (sym long) in λ i. whole tag (front i) ∷ pieces (drop (far i) bs));
-    }
+-- what stands at a place of the bytes: a tag, a length in two bytes, and the rest
+module _ (bs : List ℕ) (at t h l : ℕ) (rest : List ℕ) (is : drop at bs ≡ t ∷ h ∷ l ∷ rest) where
+  pub unframed : length rest < h * 256 + l → Unframed bs at
+  unframed short t' = ap (λ xs. next_field t' at (pieces xs)) is ∙ ap (next_field t' at) (found_cut t h l rest short)
 
--- where a field is cut short, or no byte is left, there is none
-pub unframed : (bs : List ℕ) (at : ℕ) → length bs < at + 3 + size_at bs at → Unframed bs at
-unframed bs at short t =
-    ⊎_elim (λ lt. ap (next_field t at) (next_cut bs at lt short)) (λ ge. ap (next_field t at) (next_none bs at ge)) (cases_lt at (length bs))
+  pub framed : (content : List ℕ) → content ≡ take (h * 256 + l) rest → h * 256 + l ≤ length rest → h < 256 → l < 256 → Framed bs at t content
+  framed content cut fits high low =
+      let n : ℕ = h * 256 + l in
+      let long : length content ≡ n = ap length cut ∙ length-take-le n rest fits in
+      let room : length bs ≡ at + 3 + length rest = omega (arith, length-drop at bs, ap length is) in
+      let a : h ≡ length content / 256 % 256 = omega arith in
+      let b : l ≡ length content % 256 = omega arith in
+      let back : drop n rest ≡ drop (at + 3 + length content) bs =
+      ap (λ xs. drop n (drop 3 xs)) (sym is) ∙ drop-drop n 3 (drop at bs) ∙ drop-drop (3 + n) at bs ∙ ap (λ k. drop k bs) (omega arith)
+      in
+      let whole_rest : rest ≡ content ++ drop (at + 3 + length content) bs = sym (take-append-drop n rest) ∙ (let c = sym cut in λ i. c i ++ back i) in
+      record {
+        fits = omega arith;
+        bytes = is ∙ (λ i. t ∷ a i ∷ b i ∷ whole_rest i);
+        pieces = ap pieces is ∙ found_whole t h l rest fits ∙ (let c = sym cut in λ i. whole t (c i) ∷ pieces (back i));
+      }

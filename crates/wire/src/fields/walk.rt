@@ -1,5 +1,5 @@
 // Reading, field by field.
-ghost use Rattle.std.specs.Prelude.{◌≡◌, ◌<◌, length, MatchResult};
+ghost use Rattle.std.specs.Prelude.{◌≡◌, ◌<◌, length, MatchOption, MatchResult};
 ghost use Rattle.wire.specs.Fields.{sort_of, tag_of, named, next_field, fault_at};
 ghost use Rattle.wire.specs.Seen.{seen, shown, left, Passed};
 ghost use Rattle.wire.specs.Framed.{Framed, Unframed};
@@ -29,23 +29,19 @@ fn field_named<'a>(text: Text, tag: u8, part: Part<'a>) -> Result<Field<'a>, Byt
 }
 
 impl<'a> Reader<'a> {
-    // The tag and the content of the whole field that stands at the reader's place.
-    fn frame(&self) -> Result<(u8, Part<'a>), ByteFault>
-        ensures { MatchResult result
-            (λ x. Framed self.now.bytes.now self.now.at x.0 x.1.content.now × (x.1.place ≡ self.now.at))
-            (λ e. Unframed self.now.bytes.now self.now.at × (e ≡ fault_at self.now.at)) }
+    // The tag and the content of the whole field that stands at the reader's place, if one does.
+    fn frame(&self) -> Option<(u8, Part<'a>)>
+        ensures { MatchOption result
+            (Unframed self.now.bytes.now self.now.at)
+            (λ x. Framed self.now.bytes.now self.now.at x.0 x.1.content.now × (x.1.place ≡ self.now.at)) }
     {
-        let bytes = self.bytes;
+        let (_, left) = self.bytes.split_at(self.at);
+        let (front, rest) = left.split_first_chunk::<3>()?;
+        let [tag, high, low] = *front;
+        let size = u16::from_be_bytes([high, low]);
+        let content = rest.get(..usize::from(size))?;
         let place = self.at;
-        if bytes.len() - place < 3 {
-            return Err(ByteFault { place });
-        }
-        let size = bytes[place + 1] as usize * 256 + bytes[place + 2] as usize;
-        if bytes.len() - place - 3 < size {
-            return Err(ByteFault { place });
-        }
-        let content = &bytes[place + 3..place + 3 + size];
-        Ok((bytes[place], Part { place, content }))
+        Some((tag, Part { place, content }))
     }
 
     // The field that stands at the reader's place, which moves on behind it; a fault leaves the reader as it was.
@@ -55,7 +51,7 @@ impl<'a> Reader<'a> {
         ensures bytes { self.new.bytes ≡ self.old.bytes }
         ensures text { self.new.text ≡ self.old.text }
     {
-        let (tag, part) = self.frame()?;
+        let (tag, part) = self.frame().ok_or(ByteFault { place: self.at })?;
         let field = field_named(self.text, tag, part)?;
         self.at = part.place + 3 + part.content.len();
         Ok(field)

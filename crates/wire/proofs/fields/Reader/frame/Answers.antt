@@ -1,20 +1,26 @@
-use Rattle.std.proofs.Common.{◌≡◌, ℕ, ◌+◌, ◌-◌, ◌<◌, List, get_or, take, drop, refl, ap, arith, rules}
-use Rattle.wire.proofs.Walk.{size_at, framed, unframed}
+use Rattle.std.proofs.Common.{◌≡◌, ℕ, ◌+◌, ◌*◌, List, length, get_or, take, refl, sym, ap, ◌∙◌, arith, rules}
+use Rattle.std.proofs.lemmas.Slice.{between_from_start}
+use Rattle.wire.proofs.Walk.{three, few, framed, unframed}
 use Rattle.wire.proofs.fields.Reader.frame.Goals as goal
 
-pub returns-then-bytes-place-lt3 : goal.returns-then-bytes-place-lt3
-returns-then-bytes-place-lt3 c = let self = c.args.self.now in (unframed self.bytes.now self.at (omega arith), refl)
+pub returns-in_err-front : goal.returns-in_err-front
+returns-in_err-front c =
+    let self = c.args.self.now in
+    rw c.from_residual.ensures (few self.bytes.now self.at (omega (arith, ap length c.split_at.ensures.back, c.in_err-front.ensures.cases)))
 
-pub returns-then-bytes-place : goal.returns-then-bytes-place
-returns-then-bytes-place c = let self = c.args.self.now in (unframed self.bytes.now self.at (omega arith), refl)
+pub returns-in_err-content : goal.returns-in_err-content
+returns-in_err-content c =
+    let self = c.args.self.now in
+    let cases = c.in_ok-front.ensures.cases in
+    let is = sym c.split_at.ensures.back ∙ three _ _ _ (omega (arith, cases.2)) cases.0 cases.1 in
+    rw c.from_residual-in_err-content.ensures (unframed self.bytes.now self.at _ _ _ _ is (omega (arith, c.from.ensures, c.from_be_bytes-size.ensures, c.in_err-content.ensures.lookup.0)))
 
 pub returns : goal.returns
 returns c =
     let self = c.args.self.now in
-    let bs : List ℕ = self.bytes.now in
-    let at : ℕ = self.at in
-    let n : ℕ = size_at bs at in
-    let high : get_or bs (at + 1) 0 < 256 = search rules in
-    let low : get_or bs (at + 2) 0 < 256 = search rules in
-    let size : at + 3 + n - (at + 3) ≡ n = omega arith in
-    (framed bs at _ (ap (λ k. take k (drop (at + 3) bs)) size) (omega arith) high low, refl)
+    let f : List ℕ = c.in_ok-front.front.now in
+    let cases = c.in_ok-front.ensures.cases in
+    let is = sym c.split_at.ensures.back ∙ three _ _ _ (omega (arith, cases.2)) cases.0 cases.1 in
+    let got = c.in_ok-content.ensures.lookup.0 in
+    let size : c.from.result ≡ get_or f 1 0 * 256 + get_or f 2 0 = c.from.ensures ∙ c.from_be_bytes-size.ensures in
+    (framed self.bytes.now self.at _ _ _ _ is _ (got.2 ∙ between_from_start _ _ ∙ ap (λ n. take n c.in_ok-front.rest.now) size) (omega (arith, got.1)) (search rules) (search rules), refl)
