@@ -35,12 +35,11 @@ impl<'a> Reader<'a> {
             (Unframed self.now.bytes.now self.now.at)
             (λ x. Framed self.now.bytes.now self.now.at x.0 x.1.content.now × (x.1.place ≡ self.now.at)) }
     {
-        let (_, left) = self.bytes.split_at(self.at);
-        let (front, rest) = left.split_first_chunk::<3>()?;
+        let place = self.at;
+        let (front, rest) = self.bytes[place..].split_first_chunk::<3>()?;
         let [tag, high, low] = *front;
         let size = u16::from_be_bytes([high, low]);
         let content = rest.get(..usize::from(size))?;
-        let place = self.at;
         Some((tag, Part { place, content }))
     }
 
