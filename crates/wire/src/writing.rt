@@ -184,6 +184,7 @@ impl From<Paper<'_>> for Verdict {
 }
 
 impl Paper<'_> {
+    #[tactic(auto, using(crate::proofs::Over::lines_long))]
     fn body_len(self) -> usize
         ensures length { result ≡ length (paper_body self.entry) }
         ensures small { result + 10 < 2 ^ 64 }
@@ -195,6 +196,7 @@ impl Paper<'_> {
         }
     }
 
+    #[tactic(auto, using(crate::proofs::Over::lines_long))]
     fn put_body(self, pen: &mut Pen<'_>)
         requires { HasRoom pen.old (length (paper_body self)) }
         ensures { Put pen.old pen.new (paper_body self.entry) }
