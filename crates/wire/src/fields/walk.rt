@@ -16,9 +16,8 @@ fn field_named<'a>(text: Text, tag: u8, part: Part<'a>) -> Result<Field<'a>, Byt
         (λ e. e ≡ fault_at part.entry.place) }
 {
     match (text, Tag::try_from(tag)) {
-        (Text::Run, Ok(Tag::RunHead)) => Ok(Field::Head(part)),
+        (Text::Run, Ok(Tag::RunHead)) | (Text::Paper, Ok(Tag::PaperHead)) => Ok(Field::Head(part)),
         (Text::Run, Ok(Tag::Record)) => Ok(Field::Record(part)),
-        (Text::Paper, Ok(Tag::PaperHead)) => Ok(Field::Head(part)),
         (Text::Paper, Ok(Tag::Line)) => Ok(Field::Line(part)),
         (Text::Paper, Ok(Tag::Order)) => Ok(Field::Order(part)),
         (Text::Paper, Ok(Tag::Orphan)) => Ok(Field::Orphan(part)),
