@@ -1,13 +1,17 @@
 -- Fields one after the other. Assumes nothing.
-use Rattle.std.proofs.Common.{◌≡◌, ℕ, ◌*◌, List, [], ◌∷◌, ◌++◌, length, sym, ap, ◌∙◌, append_assoc, append-nil, mul-zero, mul-suc, arith, length-append, refl}
+use Rattle.std.proofs.Common.{◌≡◌, ℕ, ◌*◌, List, [], ◌∷◌, ◌++◌, length, get_or, take, ◌+◌, ◌<◌, sym, ap, ◌∙◌, mul-zero, mul-suc, arith, length-append, refl}
+use Rattle.std.proofs.lemmas.List.{flat_map_more, take_more}
 use Rattle.memory.specs.declared.lines.Line.{Line}
 use Rattle.memory.specs.declared.records.Record.{Record}
 use Rattle.wire.specs.Bytes.{all_of, record_field, line_field, lines_body}
 
 -- the fields of elements: one more at the end
 pub fields_end : {X : Type 0} (f : X → List ℕ) (xs : List X) (x : X) → all_of f (xs ++ x ∷ []) ≡ all_of f xs ++ f x
-fields_end f [] x = append-nil (f x)
-fields_end f (y ∷ xs) x = ap (λ l. f y ++ l) (fields_end f xs x) ∙ sym (append_assoc (f y) (all_of f xs) (f x))
+fields_end f xs x = sym (flat_map_more f [] xs x)
+
+-- those of the first elements: one more
+pub fields_more : {X : Type 0} (f : X → List ℕ) (xs : List X) (i : ℕ) (x : X) → i < length xs → x ≡ get_or xs i x → all_of f (take i xs) ++ f x ≡ all_of f (take (i + 1) xs)
+fields_more f xs i x lt is = sym (fields_end f (take i xs) x) ∙ ap (λ y. all_of f (take i xs ++ y ∷ [])) is ∙ ap (all_of f) (sym (take_more xs i x lt))
 
 -- the fields of elements, where each is w bytes wide
 module _ {X : Type 0} (f : X → List ℕ) (w : ℕ) (wide : (x : X) → length (f x) ≡ w) where

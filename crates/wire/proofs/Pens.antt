@@ -1,11 +1,12 @@
 -- Writes of a pen, one after the other. Assumes nothing.
-use Rattle.std.proofs.Common.{◌≡◌, ℕ, suc, ◌+◌, ◌*◌, ◌<◌, ◌≤◌, List, [], ◌∷◌, ◌++◌, get_or, subst, length-take-le, length, take, drop, Ok, refl, sym, ap, ◌∙◌, append_assoc, append-nil, mul-suc, mul-le-mul_left, arith, length-append}
-use Rattle.std.proofs.lemmas.List.{drop-drop, take_more, take-append-drop}
+use Rattle.std.proofs.Common.{◌≡◌, ℕ, ◌+◌, ◌<◌, ◌≤◌, List, [], ◌++◌, get_or, subst, length, take, drop, Ok, refl, sym, ap, ◌∙◌, append_assoc, append-nil, arith, length-append}
+use Rattle.std.proofs.lemmas.List.{drop-drop, take-append-drop}
+use Rattle.std.proofs.lemmas.List.Folds.{length-flat_map-take}
 use Rattle.wire.specs.declared.writing.pen.Pen.{Pen}
 use Rattle.wire.specs.Bytes.{all_of}
 use Rattle.wire.specs.Written.{Written}
 use Rattle.wire.specs.Pens.{done, rest, HasRoom, Put}
-use Rattle.wire.proofs.Over.{fields_long, fields_end}
+use Rattle.wire.proofs.Over.{fields_more}
 
 -- nothing is written
 pub put_none : (p : Pen) → Put p p []
@@ -24,19 +25,14 @@ put_put {p} {q} {r} {a} {b} x y = record {
   rest = y.rest ∙ ap (drop (length b)) x.rest ∙ drop-drop (length b) (length a) (rest p) ∙ ap (λ n. drop n (rest p)) (sym (length-append a b));
 }
 
--- the fields of elements, where each is w bytes wide
-module _ {X : Type 0} (f : X → List ℕ) (w : ℕ) (wide : (x : X) → length (f x) ≡ w) where
-  -- there is room for one more
-  pub room_more : (p q : Pen) (xs : List X) (i : ℕ) → i < length xs → HasRoom p (w * length xs) → Put p q (all_of f (take i xs)) → HasRoom q w
-  room_more p q xs i lt room x =
-      let short : w * length (take i xs) ≡ w * i = ap (λ n. w * n) (length-take-le i xs (omega arith)) in
-      let one : w * suc i ≤ w * length xs = mul-le-mul_left {m = suc i} w (omega arith) in
-      omega (arith, x.at, x.long, fields_long f w wide (take i xs), mul-suc w i)
+module _ {X : Type 0} (f : X → List ℕ) (p q : Pen) (xs : List X) (i : ℕ) (x : X) (lt : i < length xs) (is : x ≡ get_or xs i x) (front : Put p q (all_of f (take i xs))) where
+  -- there is room for one element more
+  pub room_more : HasRoom p (length (all_of f xs)) → HasRoom q (length (f x))
+  room_more room = omega (arith, front.at, front.long, length-flat_map-take f xs i x lt, ap (λ y. length (f y)) is)
 
   -- one more
-  pub put_more : (p q r : Pen) (xs : List X) (i : ℕ) (x : X) → i < length xs → x ≡ get_or xs i x → Put p q (all_of f (take i xs)) → Put q r (f x) → Put p r (all_of f (take (i + 1) xs))
-  put_more p q r xs i x lt is a b =
-      subst (Put p r) (sym (fields_end f (take i xs) x) ∙ ap (λ y. all_of f (take i xs ++ y ∷ [])) is ∙ ap (all_of f) (sym (take_more xs i x lt))) (put_put a b)
+  pub put_more : (r : Pen) → Put q r (f x) → Put p r (all_of f (take (i + 1) xs))
+  put_more r one = put_as (fields_more f xs i x lt is) (put_put front one)
 
 -- what is written from the first byte on
 pub written : {p q : Pen} {bs : List ℕ} (out after : List ℕ) (n : ℕ) → p.at ≡ 0 → p.out.now ≡ out → Put p q bs → length bs ≤ length out → n ≡ q.at → after ≡ q.out.now → Written bs out after (Ok n)

@@ -1,5 +1,6 @@
 -- Numbers, runs, slips, papers and notices as bytes. Assumes nothing.
 use Rattle.std.specs.Prelude.{ℕ, zero, suc, ◌+◌, ◌*◌, ◌/◌, ◌%◌, List, [], ◌∷◌, ◌++◌, length, take, drop, Option, slice_index}
+use Rattle.std.specs.List.{flat_map}
 use Rattle.memory.specs.declared.lines.Line.{Line}
 use Rattle.memory.specs.declared.records.Entry.{Entry}
 use Rattle.memory.specs.declared.records.Record.{Record}
@@ -29,8 +30,7 @@ field tag content = tag ∷ (digits 2 (length content) ++ content)
 
 -- the fields of all elements, one after the other
 abbrev pub all_of : {X : Type 0} → (X → List ℕ) → List X → List ℕ
-all_of f [] = []
-all_of f (x ∷ xs) = f x ++ all_of f xs
+all_of f xs = flat_map f xs
 
 -- the 30 bytes of an entry, and what 30 bytes say
 abbrev pub entry_bytes : Entry → List ℕ

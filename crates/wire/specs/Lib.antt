@@ -1,4 +1,5 @@
 pub mod Bytes
+pub mod Encoded
 pub mod Faults
 pub mod Fields
 pub mod Framed

@@ -2,9 +2,9 @@
 ghost use Rattle.std.specs.Prelude.{◌≡◌, ◌+◌, ◌^◌, ◌<◌, ◌≤◌, ◌∷◌, length, refl, MatchResult};
 ghost use Rattle.memory.specs.Admission.{logged};
 ghost use Rattle.memory.specs.Numbers.{verdict_number, refusal_number, layer_number};
-ghost use Rattle.wire.specs.Bytes.{digits, field, entry_bytes, line_bytes, run_bytes, slip_bytes, paper_bytes, notice_bytes};
+ghost use Rattle.wire.specs.Bytes.{digits, entry_bytes, line_bytes, run_bytes, slip_bytes, paper_bytes, notice_bytes};
+ghost use Rattle.wire.specs.Encoded.{encoded};
 ghost use Rattle.wire.specs.Pens.{HasRoom, Put};
-ghost use Rattle.wire.specs.Tags.{tag_number};
 ghost use Rattle.wire.specs.Written.{Written, paper_verdict, paper_number, paper_body};
 ghost use Rattle.wire.specs.declared.tags.Tag.TheVariants as tag;
 
@@ -136,7 +136,7 @@ fn check_room(out: &[u8], size: usize) -> Result<(), TooShort>
 
 // One field.
 fn write_field<T: Encode>(out: &mut [u8], x: T) -> Result<usize, TooShort>
-    ensures { Written (field (tag_number T.TAG) (T.bytes x)) out.old out.new result }
+    ensures { Written (encoded T.Encode x) out.old out.new result }
 {
     check_room(out, 3 + usize::from(T::LEN))?;
     let mut pen = Pen::over(out);
@@ -196,7 +196,6 @@ impl Paper<'_> {
         }
     }
 
-    #[tactic(auto, using(crate::proofs::Over::lines_long))]
     fn put_body(self, pen: &mut Pen<'_>)
         requires { HasRoom pen.old (length (paper_body self)) }
         ensures { Put pen.old pen.new (paper_body self.entry) }

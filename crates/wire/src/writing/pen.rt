@@ -1,6 +1,6 @@
 // A pen over lent bytes.
-ghost use Rattle.std.specs.Prelude.{◌≡◌, ◌+◌, ◌*◌, ◌≤◌, ℕ, List, ◌∷◌, length};
-ghost use Rattle.wire.specs.Bytes.{digits, field, all_of};
+ghost use Rattle.std.specs.Prelude.{◌≡◌, ◌+◌, ◌≤◌, ℕ, List, ◌∷◌, length};
+ghost use Rattle.wire.specs.Bytes.{digits, field};
 ghost use Rattle.wire.specs.Tags.{tag_number};
 ghost use Rattle.wire.specs.Pens.{HasRoom, Put};
 ghost use Rattle.wire.specs.declared.tags.Tag.{Tag};
@@ -34,6 +34,8 @@ pub(crate) trait Encode: Copy {
 }
 
 impl<'a> Pen<'a> {
+    ghost use Rattle.wire.specs.Encoded.{encoded, all_encoded};
+
     pub(crate) fn over(out: &'a mut [u8]) -> Pen<'a>
         ensures same { result.out.ghost_name ≡ out.entry.ghost_name }
         ensures bytes { result.out.now ≡ out.old }
@@ -77,15 +79,15 @@ impl<'a> Pen<'a> {
 
     pub(crate) fn write<T: Encode>(&mut self, x: T)
         requires { HasRoom self.old (3 + T.LEN) }
-        ensures { Put self.old self.new (field (tag_number T.TAG) (T.bytes x)) }
+        ensures { Put self.old self.new (encoded T.Encode x) }
     {
         self.put_head(T::TAG, usize::from(T::LEN));
         x.put(self);
     }
 
     pub(crate) fn write_all<T: Encode>(&mut self, xs: &[T])
-        requires { HasRoom self.old ((3 + T.LEN) * length xs.now) }
-        ensures { Put self.old self.new (all_of (λ x. field (tag_number T.TAG) (T.bytes x)) xs.now) }
+        requires { HasRoom self.old (length (all_encoded T.Encode xs.now)) }
+        ensures { Put self.old self.new (all_encoded T.Encode xs.now) }
     {
         for x in xs {
             self.write(*x);

@@ -7,6 +7,9 @@ use Rattle.wire.proofs.writing.write_run.Goals as goal
 pub returns-in_err-check_room : goal.returns-in_err-check_room
 returns-in_err-check_room c = let h = c.in_err-check_room.ensures in let l = records_long c.args.records.now in let k = length-append (all_of record_field c.args.records.now) (field 3 []) in let few : length c.args.out.now < 6 + length (all_of record_field c.args.records.now ++ field 3 []) = omega (arith, l, k, h) in search (rules, few)
 
+pub write_all-requires : goal.write_all-requires
+write_all-requires c = omega (arith, records_long c.args.records.now, c.put_field.ensures.long, c.put_field.ensures.at, ap length c.over-pen.ensures.bytes)
+
 pub put_field-requires-2 : goal.put_field-requires-2
 put_field-requires-2 c = omega (arith, records_long c.args.records.now, c.write_all.ensures.long, c.write_all.ensures.at, c.put_field.ensures.long, c.put_field.ensures.at, ap length c.over-pen.ensures.bytes)
 
