@@ -4,6 +4,8 @@ ghost use Rattle.std.specs.Prelude.{◌≤◌, length};
 mod decode;
 mod walk;
 
+pub use decode::Content;
+
 // What the bytes are to be; the tags differ.
 #[derive(Clone, Copy)]
 pub enum Text {
