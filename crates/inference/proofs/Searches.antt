@@ -65,14 +65,17 @@ module _ {S A F : Type 0} {steps : S → Option A → S → Type 0} (g : Mut F (
       none_at zero some le = absurd (omega arith)
       none_at (suc k) some le = let t = there (p.at k) (num.gives k (omega (arith, num.all whole))) (none num.keeps k) in sym (t.1 false f t.2)
 
-module _ {F R : Type 0} (g : Mut F (ℕ × Unit {0}) R) (f : F) (h : ℕ → R) (n : ℕ) (s : RangeInclusive ℕ) (start : range_inclusive_start s ≡ 1) (end : range_inclusive_end s ≡ n) (unspent : range_inclusive_exhausted s ≡ false) (acts : ActsAs g f h) where
-  -- the run of 1..=n
+-- s is 1..=n
+abbrev pub Counts : ℕ → RangeInclusive ℕ → Type 0
+Counts n s = (range_inclusive_start s ≡ 1) × (range_inclusive_end s ≡ n) × (range_inclusive_exhausted s ≡ false)
+
+module _ {F R : Type 0} (g : Mut F (ℕ × Unit {0}) R) (f : F) (h : ℕ → R) (n : ℕ) (s : RangeInclusive ℕ) (is : Counts n s) (acts : ActsAs g f h) where
   counted : (p : Run nat_range_inclusive_steps) → p.from ≡ s → Numbers g f h n p
   counted p from =
       let l = inclusive_listed p p.seen in
-      let u = l.4 (ap range_inclusive_exhausted from ∙ unspent) in
-      let a : l.0 ≡ 1 = l.2 ∙ ap range_inclusive_start from ∙ start in
-      let b : l.1 ≡ n + 1 = l.3 ∙ ap (λ z. range_inclusive_end z + 1) from ∙ ap (λ z. z + 1) end in
+      let u = l.4 (ap range_inclusive_exhausted from ∙ is.2) in
+      let a : l.0 ≡ 1 = l.2 ∙ ap range_inclusive_start from ∙ is.0 in
+      let b : l.1 ≡ n + 1 = l.3 ∙ ap (λ z. range_inclusive_end z + 1) from ∙ ap (λ z. z + 1) is.1 in
       record {
         few = omega (arith, u.0.0);
         all = λ w. omega (arith, u.0.1 w);
@@ -84,25 +87,26 @@ module _ {F R : Type 0} (g : Mut F (ℕ × Unit {0}) R) (f : F) (h : ℕ → R) 
       at None x e is = absurd (cc is)
       at (Some y) x {k} e is = λ r q c. (acts y r q c).1 ∙ ap h (cc)
 
-module _ {F : Type 0} (n : ℕ) (s : RangeInclusive ℕ) (start : range_inclusive_start s ≡ 1) (end : range_inclusive_end s ≡ n) (unspent : range_inclusive_exhausted s ≡ false) where
-  pub find_map_upto : {X : Type 0} (g : Mut F (ℕ × Unit {0}) (Option X)) (f : F) (h : ℕ → Option X) → ActsAs g f h → (r : Option X) → SomeRun nat_range_inclusive_steps s (Finds g f r) → r ≡ seek h n
-  find_map_upto g f h acts r (p, from, found) = find_map_seeks g f h n p (counted g f h n s start end unspent acts p from) r found
+-- `find_map` and `any` along 1..=n, where the closure computes h
+module _ {F : Type 0} {f : F} {s : RangeInclusive ℕ} (n : ℕ) where
+  pub find_map_upto : {X : Type 0} {g : Mut F (ℕ × Unit {0}) (Option X)} (h : ℕ → Option X) (r : Option X) → SomeRun nat_range_inclusive_steps s (Finds g f r) → Counts n s → ActsAs g f h → r ≡ seek h n
+  find_map_upto {g = g} h r (p, from, found) is acts = find_map_seeks g f h n p (counted g f h n s is acts p from) r found
 
-  pub any_upto : (g : Mut F (ℕ × Unit {0}) Bool) (f : F) (h : ℕ → Bool) → ActsAs g f h → (r : Bool) → SomeRun nat_range_inclusive_steps s (Passes g f r) → r ≡ some h n
-  any_upto g f h acts r (p, from, found) = any_some g f h n p (counted g f h n s start end unspent acts p from) r found
+  pub any_upto : {g : Mut F (ℕ × Unit {0}) Bool} (h : ℕ → Bool) (r : Bool) → SomeRun nat_range_inclusive_steps s (Passes g f r) → Counts n s → ActsAs g f h → r ≡ some h n
+  any_upto {g = g} h r (p, from, found) is acts = any_some g f h n p (counted g f h n s is acts p from) r found
 
--- the same of a list, where f answers h 1 at its first, h 2 at its second, and so on
-module _ {S A B F X : Type 0} {steps : S → Option A → S → Type 0} (v : A → B) (rest : S → List B) (every : EveryRun steps (λ p. ItemsMapTo p v (rest p.from))) (s : S) (xs : List B) (left : rest s ≡ xs) where
-  pub find_map_listed : (g : Mut F (A × Unit {0}) (Option X)) (f : F) (t : B → Option X) (h : ℕ → Option X) (d : B) → ((k : ℕ) → k < length xs → t (get_or xs k d) ≡ h (suc k)) → ((x : A) (r : Option X) (q : F) → Called g f (x, tt) r q → (q ≡ f) × (r ≡ t (v x))) → (r : Option X) → SomeRun steps s (Finds g f r) → r ≡ seek h (length xs)
-  find_map_listed g f t h d is acts r (p, at, found) =
-      let items = subst (ItemsMapTo p v) (ap rest at ∙ left) (every p p.seen) in
+-- `find_map` along the list xs, where the closure answers h 1 at its first, h 2 at its second, and so on
+module _ {S A B F X : Type 0} {steps : S → Option A → S → Type 0} {g : Mut F (A × Unit {0}) (Option X)} {f : F} {s : S} (v : A → B) (rest : S → List B) (every : EveryRun steps (λ p. ItemsMapTo p v (rest p.from))) (xs : List B) (left : rest s ≡ xs) where
+  pub find_map_listed : (t : B → Option X) (h : ℕ → Option X) (d : B) → ((k : ℕ) → k < length xs → t (get_or xs k d) ≡ h (suc k)) → (r : Option X) → SomeRun steps s (Finds g f r) → ActsAs g f (λ x. t (v x)) → r ≡ seek h (length xs)
+  find_map_listed t h d is r (p, from, found) acts =
+      let items = subst (ItemsMapTo p v) (ap rest from ∙ left) (every p p.seen) in
       find_map_seeks g f h (length xs) p (record {
         few = items.0;
         all = items.1;
         keeps = λ x r q c. (acts x.0 r q c).0;
-        gives = λ k lt. gives (p.at k) k (get_or xs k d) (items.2 k d lt) (is k (omega (arith, items.0)));
+        gives = λ k lt. at (p.at k) k (get_or xs k d) (items.2 k d lt) (is k (omega (arith, items.0)));
       }) r found
     where
-      gives : (o : Option A) (k : ℕ) (y : B) → option_map v o ≡ Some y → t y ≡ h (suc k) → IsSomeAnd o (λ x. (r : Option X) (q : F) → Called g f (x, tt) r q → r ≡ h (suc k))
-      gives None k y e is = absurd (cc e)
-      gives (Some x) k y e is = λ r q c. let same : v x ≡ y = cc in (acts x r q c).1 ∙ ap t same ∙ is
+      at : (o : Option A) (k : ℕ) (y : B) → option_map v o ≡ Some y → t y ≡ h (suc k) → IsSomeAnd o (λ x. (r : Option X) (q : F) → Called g f (x, tt) r q → r ≡ h (suc k))
+      at None k y e is = absurd (cc e)
+      at (Some x) k y e is = λ r q c. let same : v x ≡ y = cc in (acts x r q c).1 ∙ ap t same ∙ is

@@ -12,8 +12,8 @@ abbrev pub initial : Record → Record → Bool
 initial x w = is_load x.kind && (x.value == 0 && (is_store w.kind && w.address == x.address))
 
 -- two stores to one address: `rivals`, of different records
-abbrev pub write_one : Record → Record → Bool
-write_one v w = is_store v.kind && (is_store w.kind && v.address == w.address)
+abbrev pub write_one_address : Record → Record → Bool
+write_one_address v w = is_store v.kind && (is_store w.kind && v.address == w.address)
 
 -- the load x reads record w, another store than y to that address, and w is listed before y, which has the number b: `overwritten`
 abbrev pub overwrites : List Record → List Line → Record → ℕ → Record → ℕ → Bool

@@ -1,9 +1,7 @@
 // The seven rules.
 ghost use Rattle.std.specs.Prelude.{◌≡◌, ◌&&◌, length};
-ghost use Rattle.memory.specs.Reading.{reads_from};
-ghost use Rattle.memory.specs.Runs.{at};
-ghost use Rattle.inference.specs.Records.{initial, write_one, overwrites};
-ghost use Rattle.inference.specs.Rules.{known, listed, some, names_third, follows as follows_from};
+ghost use Rattle.inference.specs.Records.{initial, write_one_address, overwrites};
+ghost use Rattle.inference.specs.Rules.{known, some, names_third, follows as follows_from};
 ghost use Rattle.inference.specs.Views.{records_in, lines_in, setting_in, run_in};
 ghost use Rattle.inference.specs.Worth.{Stays};
 
@@ -23,8 +21,8 @@ fn reads_initial(load: Record, store: Record) -> bool
 }
 
 // Two stores to one address.
-fn write_one(v: Record, w: Record) -> bool
-    ensures { result ≡ write_one v w }
+fn write_one_address(v: Record, w: Record) -> bool
+    ensures { result ≡ write_one_address v w }
 {
     v.kind.is_store() && w.kind.is_store() && v.address == w.address
 }
@@ -51,7 +49,7 @@ impl<M: Model, C: Clock> Premises<'_, M, C> {
     {
         self.run.record(store).is_some_and(|w| {
             reads_from(load, w)
-                && write_one(w, y)
+                && write_one_address(w, y)
                 && store != second
                 && is_listed(self.lines, store, second)
         })
@@ -61,15 +59,6 @@ impl<M: Model, C: Clock> Premises<'_, M, C> {
         ensures { result ≡ some (overwrites (records_in self.now) (lines_in self.now) load second y) (length (records_in self.now)) }
     {
         (1..=self.run.count()).any(|store| self.is_overwritten(load, second, y, store))
-    }
-
-    // The load reads the second, another store than the first to its address, and the first is listed before the load.
-    fn by_coherence(&self, line: Line, x: Record, y: Record) -> bool
-        ensures { result ≡ (known (run_in self.now) line.third && (reads_from (at (records_in self.now) line.third) y && (write_one x y && listed (lines_in self.now) line.first line.third))) }
-    {
-        self.run.record(line.third).is_some_and(|load| {
-            reads_from(load, y) && write_one(x, y) && is_listed(self.lines, line.first, line.third)
-        })
     }
 
     // The line names two different records and a third as its rule does, and the rule gives it.
@@ -92,7 +81,12 @@ impl<M: Model, C: Clock> Premises<'_, M, C> {
                 Rule::Model => first < second && self.run.setting.keeps(x, y),
                 Rule::ReadsFrom => reads_from(y, x),
                 Rule::InitialRead => reads_initial(x, y),
-                Rule::Coherence => self.by_coherence(line, x, y),
+                // the third is a load that reads the second
+                Rule::Coherence => self.run.record(third).is_some_and(|load| {
+                    reads_from(load, y)
+                        && write_one_address(x, y)
+                        && is_listed(self.lines, first, third)
+                }),
                 Rule::FromRead => self.by_from_read(x, second, y),
                 Rule::Transitive => self.run.record(third).is_some()
                     && is_listed(self.lines, first, third)

@@ -10,4 +10,4 @@ pub returns : goal.returns
 returns g c =
     let self = c.args.self.now in
     let p : ℕ → Bool = overwrites (records_in self) (lines_in self) c.args.load c.args.second c.args.y in
-    any_upto (length (records_in self)) _ (search rules) (search rules) (search rules) _ _ (λ k. known (run_in self) k && p k) (λ x r q k. search rules) _ c.any.ensures.runs ∙ some_known (run_in self) p
+    any_upto (length (records_in self)) (λ k. known (run_in self) k && p k) _ c.any.ensures.runs (search rules) (λ x r q k. search rules) ∙ some_known (run_in self) p

@@ -7,4 +7,4 @@ use Rattle.inference.proofs.premises.Premises.least_of_rule.Goals as goal
 pub returns : goal.returns
 returns g c =
     let self = c.args.self.now in
-    find_map_upto (length (records_in self)) _ (search rules) (search rules) (search rules) _ _ (least_of_first (run_in self) (lines_in self) c.args.rule) (λ x r q k. search rules) _ c.find_map.ensures.runs
+    find_map_upto (length (records_in self)) (least_of_first (run_in self) (lines_in self) c.args.rule) _ c.find_map.ensures.runs (search rules) (λ x r q k. search rules)

@@ -13,5 +13,6 @@ returns g c =
     let R = run_in c.args.self.now in
     let ls = lines_in c.args.self.now in
     let by = least_of_rule R ls in
-    let is : c.find_map.result ≡ next R ls = find_map_listed (λ x. x.now) (λ i. i.rest.now) c.iter.ensures.runs _ all_rules c.iter.ensures.rest _ _ (λ r. by (Some r)) (λ k. by (rule_at k)) Clock (λ k lt. ap by (rule_in_order k lt)) (λ x r q k. search rules) _ c.find_map.ensures.runs in
+    let is : c.find_map.result ≡ next R ls =
+    find_map_listed (λ x. x.now) (λ i. i.rest.now) c.iter.ensures.runs all_rules c.iter.ensures.rest (λ r. by (Some r)) (λ k. by (rule_at k)) Clock (λ k lt. ap by (rule_in_order k lt)) _ c.find_map.ensures.runs (λ x r q k. search rules) in
     record { value = is; least = subst (Next R ls) (sym is) (next_is R ls) }
