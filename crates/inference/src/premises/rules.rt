@@ -43,7 +43,7 @@ impl<M: Model, C: Clock> Premises<'_, M, C> {
             .surely_earlier(x.processor, x.commit, y.processor, y.enter)
     }
 
-    // The load reads the store of this number, which is listed before the second, another store to that address.
+    // The load reads the store of this number, another than y to that address, and it is listed before y, which has the number `second`.
     fn is_overwritten(&self, load: Record, second: u8, y: Record, store: u8) -> bool
         ensures { result ≡ (known (run_in self.now) store && overwrites (records_in self.now) (lines_in self.now) load second y store) }
     {
@@ -55,6 +55,7 @@ impl<M: Model, C: Clock> Premises<'_, M, C> {
         })
     }
 
+    // The load reads a store that is listed before y, another store to that address.
     fn by_from_read(&self, load: Record, second: u8, y: Record) -> bool
         ensures { result ≡ some (overwrites (records_in self.now) (lines_in self.now) load second y) (length (records_in self.now)) }
     {

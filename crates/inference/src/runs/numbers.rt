@@ -40,6 +40,8 @@ impl<'a, M: Model, C: Clock> Run<'a, M, C> {
     pub(crate) fn record(&self, number: u8) -> Option<Record>
         ensures { MatchOption result (known (run_is self.now) number ≡ false) (λ r. (known (run_is self.now) number ≡ true) × (r ≡ at self.now.records.now number)) }
     {
-        self.records.get((number as usize).checked_sub(1)?).copied()
+        self.records
+            .get(usize::from(number).checked_sub(1)?)
+            .copied()
     }
 }

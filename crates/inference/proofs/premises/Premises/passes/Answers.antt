@@ -12,5 +12,5 @@ returns-in-FromRead g c =
     let l = c.args.line in
     let rs = records_in self in
     let is : c.by_from_read.result ≡ by_rule (run_in self) (lines_in self) FromRead l.first l.second l.third =
-        c.by_from_read.ensures ∙ (λ i. some (overwrites rs (lines_in self) (c.in-Some-Some.ensures.1 i) l.second (c.in-Some-Some.ensures'.1 i)) (length rs)) in
+    c.by_from_read.ensures ∙ (λ i. some (overwrites rs (lines_in self) (c.in-Some-Some.ensures.1 i) l.second (c.in-Some-Some.ensures'.1 i)) (length rs)) in
     search rules
