@@ -1,5 +1,6 @@
 -- What the bytes say of the case, once the head has passed. Assumes nothing.
 use Rattle.std.proofs.Common.{◌≡◌, ℕ, ◌+◌, ◌*◌, ◌<◌, List, [], ◌++◌, length, take, drop, Ok, Err, sym, ap, ◌∙◌, append_assoc, arith, length-append}
+use Rattle.std.proofs.lemmas.Grind.{common_steps}
 use Rattle.std.proofs.lemmas.List.{take_at, length-drop}
 use Rattle.wire.specs.declared.faults.RunFault.{RunFault}
 use Rattle.wire.specs.Bytes.{field, all_of, record_field, run_head}
@@ -8,13 +9,10 @@ use Rattle.case.specs.State.{State}
 use Rattle.case.specs.Loading.{place_of, Front, Kept}
 use Rattle.case.specs.Parts.{Walked, Headed}
 
-module _ (model clock : ℕ) (s : State) (bs : List ℕ) (t : State) (at : ℕ) (head : Headed model clock s bs t at (Ok tt)) (u : State) (left : List ℕ) (w : Walked bs at t left u) where
+module _ (model clock : ℕ) (s : State) {bs left : List ℕ} {at : ℕ} {t u : State} (w : Walked bs at t left u) (head : Headed model clock s bs t at (Ok tt)) where
   -- all bytes: the head, the records, and what is left
   whole : bs ≡ run_head u.processors model clock ++ (all_of record_field u.records ++ left)
-  whole =
-      let p = sym w.processors in
-      let rs : w.more ≡ u.records = sym (w.records ∙ ap (λ l. l ++ w.more) head.2) in
-      head.3 ∙ ap (λ l. run_head t.processors model clock ++ l) (ap (λ n. drop n bs) (sym head.1) ∙ w.bytes) ∙ (λ i. run_head (p i) model clock ++ (all_of record_field (rs i) ++ left))
+  whole = grind (arith, common_steps)
 
   front : Front model clock u bs
   front =

@@ -27,13 +27,13 @@ pub record Progress (first : Reader) (s : State) (r : Reader) (t : State) : Type
   pub walked : Walked first.bytes.now first.at s (drop r.at first.bytes.now) t
   pub same : load_fields s first.at (left first) ≡ load_fields t r.at (left r)
 
-module _ (first : Reader) (s : State) (r : Reader) (t : State) (h : Progress first s r t) where
+module _ {first r : Reader} {s t : State} (h : Progress first s r t) where
   -- no field stands there
   pub fell_reading : (e : ByteFault) → Err e ≡ next_field r.text r.at (left r) → load_fields s first.at (left first) ≡ stopped t (Bytes e)
   fell_reading e is = h.same ∙ fields_step t r.at (left r) ∙ rw (← h.text, ← is) refl
 
   -- a field was read there, and the case is u
-  module _ (after : Reader) (f : Shown) (is : Ok f ≡ next_field r.text r.at (left r)) (p : Passed r after f) (u : State) where
+  module _ {after : Reader} {f : Shown} (p : Passed r after f) (is : Ok f ≡ next_field r.text r.at (left r)) (u : State) where
     step : load_fields s first.at (left first) ≡ load_sort f.sort f t (λ v. load_fields v after.at (left after))
     step = h.same ∙ fields_step t r.at (left r) ∙ rw (← h.text, ← is, ← p.rest, p.moved, p.place) refl
 

@@ -1,22 +1,19 @@
 -- The run that a case writes loads as the same records. Assumes nothing.
-use Rattle.std.proofs.Common.{◌≡◌, ℕ, ◌+◌, ◌*◌, ◌^◌, ◌<◌, true, cond, not, ◌&&◌, eqb, ltb, leb, List, [], ◌∷◌, ◌++◌, length, is_ok, Some, None, Ok, Err, sym, refl, ap, ◌∙◌, append_assoc, append-nil, arith, length-append}
+use Rattle.std.proofs.Common.{◌≡◌, ℕ, ◌+◌, ◌*◌, ◌^◌, ◌<◌, true, ◌&&◌, ltb, leb, List, [], ◌∷◌, ◌++◌, length, is_ok, Ok, sym, refl, ap, ◌∙◌, append_assoc, append-nil, arith, length-append}
 use Rattle.std.proofs.lemmas.Bool.{and_parts, or_parts, leb-false, ltb-true, eq-eqb, le-ltb}
 use Rattle.memory.specs.declared.records.Record.{Record}
-use Rattle.memory.specs.declared.refusals.Refusal.TheVariants as refuse
 use Rattle.memory.specs.Admission.{opens, logged, judgement, admits, sized}
 use Rattle.memory.specs.Kinds.{kind_number}
 use Rattle.memory.specs.Limits.{reading_limit}
 use Rattle.memory.proofs.Admitted.{judged, admits_again}
-use Rattle.wire.specs.declared.faults.RunFault.TheVariants.{Bytes}
-use Rattle.wire.specs.declared.fields.Text.TheVariants.{Run}
 use Rattle.wire.specs.Bytes.{field, all_of, digits, number_on, entry_bytes, entry_in, record_field, run_bytes}
-use Rattle.wire.specs.Fields.{Piece, whole, next_field, later, entry_of, fault_at}
+use Rattle.wire.specs.Fields.{whole, entry_of}
 use Rattle.wire.proofs.Digits.{digits_back}
 use Rattle.wire.proofs.Found.{wholes, run_found}
 use Rattle.wire.proofs.Over.{records_long}
 use Rattle.case.specs.State.{State, opened}
 use Rattle.case.specs.Calls.{sealed, sealed_verdict}
-use Rattle.case.specs.Loading.{Loaded, load_judged, load_entry, load_fields, load_begun, go_on, load_by, loading, ended_as, Reloads}
+use Rattle.case.specs.Loading.{Loaded, load_entry, load_fields, loading, ended_as, Reloads}
 
 -- the bytes of a record say what was logged
 entry_back : (r : Record) → r.address < 256 ^ 4 → r.value < 256 ^ 8 → r.enter < 256 ^ 8 → r.commit < 256 ^ 8 → entry_in (entry_bytes (logged r)) ≡ logged r
@@ -38,7 +35,7 @@ record_loads p at rs r rest ok sz =
     let early = or_parts (leb reading_limit r.enter) (leb reading_limit r.commit) (judged p rs (logged r) r j).1.early in
     let size = and_parts (ltb r.address 4294967296) (ltb r.value 18446744073709551616) sz in
     let says = entry_back r (ltb-true _ _ size.0) (ltb-true _ _ size.1) (omega (arith, leb-false reading_limit r.enter early.0)) (omega (arith, leb-false reading_limit r.commit early.1)) in
-    ap (λ e. load_judged (judgement p rs e) at (holding p rs) rest) says ∙ ap (λ x. load_judged x at (holding p rs) rest) j
+    rw (says, j) refl
 
 -- the records one after the other, and the end
 fields_load : (p at : ℕ) (rs more : List Record) → admits p rs more ≡ true → sized more ≡ true →
@@ -57,9 +54,6 @@ fields_load p at rs (r ∷ more) adm sz =
     ∙ fields_load p (at + 3 + 30) (rs ++ r ∷ []) more a.1 b.1
     ∙ (λ i. ended_as (holding p (all i)) (Ok (end i)))
 
-same_marks : (a b : ℕ) → (eqb a a && eqb b b) ≡ true
-same_marks a b = ap (λ x. x && eqb b b) (eq-eqb a a refl) ∙ eq-eqb b b refl
-
 pub reloads : (m k : ℕ) (before s : State) → opens s.processors ≡ true → admits s.processors [] s.records ≡ true → sized s.records ≡ true → Reloads m k before s (run_bytes s.processors m k s.records)
 reloads m k before s o adm sz = record { answer = ap (λ x. x.answer) all; processors = ap (λ x. x.state.processors) all; records = ap (λ x. x.state.records) all }
   where
@@ -67,10 +61,5 @@ reloads m k before s o adm sz = record { answer = ap (λ x. x.answer) all; proce
     all =
         let rs = s.records in
         let n : ℕ = length (run_bytes s.processors m k rs) in
-        let ps : List Piece = wholes rs ++ whole 3 [] ∷ [] in
         let long : n ≡ 6 + 33 * length rs + 3 = omega (arith, length-append (all_of record_field rs) (field 3 []), records_long rs) in
-        ap (λ x. load_by (next_field Run 0 x) m k before n (later x)) (run_found s.processors m k rs)
-        ∙ ap (λ b. load_begun (cond (not b) (Some refuse.Foreign) (cond (not (opens s.processors)) (Some refuse.Stranger) None)) s.processors before n ps) (same_marks m k)
-        ∙ ap (λ b. load_begun (cond (not b) (Some refuse.Stranger) None) s.processors before n ps) o
-        ∙ ap (go_on n) (fields_load s.processors 6 [] rs adm sz)
-        ∙ ap (λ b. cond b (record { answer = Err (Bytes (fault_at (6 + 33 * length rs + 3))); state = holding s.processors rs }) (record { answer = Ok (sealed_verdict rs); state = sealed (holding s.processors rs) })) (le-ltb (6 + 33 * length rs + 3) n (omega arith))
+        rw (run_found s.processors m k rs, eq-eqb m m refl, eq-eqb k k refl, o, fields_load s.processors 6 [] rs adm sz, le-ltb (6 + 33 * length rs + 3) n (omega arith)) refl

@@ -1,6 +1,5 @@
 use Rattle.std.proofs.Common.{sym, ◌∙◌}
 use Rattle.std.proofs.lemmas.Result.{err_from_is_err_and}
-use Rattle.wire.specs.Seen.{shown}
 use Rattle.case.specs.Views.{view}
 use Rattle.case.proofs.Progress.{fell_reading, at_fault, at_end, progress_more}
 use Rattle.case.proofs.cases.Case.load_fields.Goals as goal
@@ -8,19 +7,19 @@ use Rattle.case.proofs.cases.Case.load_fields.Goals as goal
 pub returns-in_err-next-clause-result : goal.returns-in_err-next-clause-result
 returns-in_err-next-clause-result g c =
     let p = err_from_is_err_and c.from_residual.result c.from_residual.ensures.1 in
-    rw (p.1, p.2) (fell_reading _ _ _ _ c.loop.invariant.0 c.in_err-next.field-0.0 c.in_err-next.ensures.answer)
+    rw (p.1, p.2) (fell_reading c.loop.invariant.0 c.in_err-next.field-0.0 c.in_err-next.ensures.answer)
 
 pub returns-in_err-load_field-clause-result : goal.returns-in_err-load_field-clause-result
 returns-in_err-load_field-clause-result g c =
     let p = err_from_is_err_and c.from_residual-in_err-load_field.result c.from_residual-in_err-load_field.ensures.1 in
     let read = c.in_ok-next.ensures in
-    rw (p.1, p.2) (at_fault _ _ _ _ c.loop.invariant.0 _ (shown c.in_ok-next.field-0) read.answer read.passed (view c.load_field.new.self) c.in_err-load_field.field-0.0 c.in_err-load_field.ensures.turned)
+    rw (p.1, p.2) (at_fault c.loop.invariant.0 read.passed read.answer (view c.load_field.new.self) c.in_err-load_field.field-0.0 c.in_err-load_field.ensures.turned)
 
 pub loop-preserved : goal.loop-preserved
 loop-preserved g c =
     let read = c.in_ok-next.ensures in
     let told = c.in_ok-load_field.ensures in (
-      progress_more _ _ _ _ c.loop.invariant.0 _ (shown c.in_ok-next.field-0) read.answer read.passed (view c.load_field.new.self) c.in_ok-load_field.field-0 (sym c.is_continue.ensures ∙ c.if-is_continue.true) read.bytes read.text told.turned told.gained,
+      progress_more c.loop.invariant.0 read.passed read.answer (view c.load_field.new.self) c.in_ok-load_field.field-0 (sym c.is_continue.ensures ∙ c.if-is_continue.true) read.bytes read.text told.turned told.gained,
       told.setting ∙ c.loop.invariant.1,
     )
 
@@ -28,4 +27,4 @@ pub returns-clause-result : goal.returns-clause-result
 returns-clause-result g c =
     let read = c.in_ok-next.ensures in
     let told = c.in_ok-load_field.ensures in
-    at_end _ _ _ _ c.loop.invariant.0 _ (shown c.in_ok-next.field-0) read.answer read.passed (view c.load_field.new.self) c.in_ok-load_field.field-0 (sym c.is_continue.ensures ∙ c.if-is_continue.false) told.turned told.gained
+    at_end c.loop.invariant.0 read.passed read.answer (view c.load_field.new.self) c.in_ok-load_field.field-0 (sym c.is_continue.ensures ∙ c.if-is_continue.false) told.turned told.gained
