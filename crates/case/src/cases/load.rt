@@ -46,7 +46,7 @@ impl<M: Model, C: Clock> Case<M, C> {
             Field::Record(part) => self.load_record(part).map(ControlFlow::Continue),
             Field::End { .. } => Ok(ControlFlow::Break(())),
             Field::Head(part) | Field::Line(part) | Field::Order(part) | Field::Orphan(part) => Err(
-                RunFault::Bytes(ByteFault { place: part.place }),
+                ByteFault { place: part.place }.into(),
             ),
         }
     }
@@ -93,7 +93,7 @@ impl<M: Model, C: Clock> Case<M, C> {
         ensures setting { self.new.setting ≡ self.old.setting }
     {
         let Field::Head(part) = reader.next()? else {
-            return Err(RunFault::Bytes(ByteFault { place: 0 }));
+            return Err(ByteFault { place: 0 }.into());
         };
         let head = part.read::<RunHead>()?;
         self.begin(head)
