@@ -1,7 +1,8 @@
 -- The room for slip and paper suffices. Assumes nothing.
-use Rattle.std.proofs.Common.{◌≡◌, ℕ, ◌≤◌, List, [], ◌++◌, length, take, Some, None, Err, Option, refl, ap, ◌∙◌, arith}
-use borrow.Rule.Slice.PartMut.{put_mid}
-use Rattle.std.proofs.lemmas.List.{take_at}
+use Rattle.std.proofs.Common.{◌≡◌, ℕ, ◌+◌, ◌≤◌, List, ◌++◌, length, take, drop, Some, None, Ok, Err, Option, Result, refl, sym, ap, ◌∙◌, rules, arith}
+use borrow.Rule.Slice.PartMut.{put_mid, post_of}
+use Rattle.std.specs.Result.{result_unwrap_or}
+use Rattle.std.proofs.lemmas.List.{take_at, length-append, append_assoc}
 use Rattle.memory.specs.declared.refusals.Fault.{Fault}
 use Rattle.memory.specs.declared.verdicts.Verdict.{Verdict}
 use Rattle.memory.specs.declared.verdicts.Verdict.TheVariants.{Order, Opposed, Orphan, Exhausted}
@@ -9,16 +10,24 @@ use Rattle.case.specs.State.{State}
 use Rattle.case.specs.Calls.{paper_at, WroteSome}
 use Rattle.checker.specs.Output.{or_none}
 
--- a paper that is refused with this room is none
-pub no_paper : (s : State) (model clock n : ℕ) (v : Option Verdict) (out after : List ℕ) (f : Fault) → 14 ≤ length out → WroteSome s (paper_at v model clock n) out after (Err f) → or_none (paper_at v model clock n) ≡ []
-no_paper s model clock n None out after f room w = refl
-no_paper s model clock n (Some Order) out after f room w = absurd (omega (arith, w.0))
-no_paper s model clock n (Some Opposed) out after f room w = refl
-no_paper s model clock n (Some (Orphan l)) out after f room w = absurd (omega (arith, w.0))
-no_paper s model clock n (Some Exhausted) out after f room w = refl
+-- every paper has at most 14 bytes
+pub paper_room : (model clock n : ℕ) (v : Option Verdict) → length (or_none (paper_at v model clock n)) ≤ 14
+paper_room model clock n None = search rules
+paper_room model clock n (Some Order) = search rules
+paper_room model clock n (Some Opposed) = search rules
+paper_room model clock n (Some (Orphan l)) = search rules
+paper_room model clock n (Some Exhausted) = search rules
 
--- what was written into a part leaves what stands before it
-pub front_kept : (at k : ℕ) (xs ys bs rest : List ℕ) → xs ≡ bs ++ rest → length bs ≡ at → take at (put_mid at k xs ys) ≡ bs
-front_kept at k xs ys bs rest is long =
-    let front : take at xs ≡ bs = ap (take at) is ∙ take_at bs rest at long in
-    take_at (take at xs) _ at (ap length front ∙ long) ∙ front
+-- with that room, the paper stands in front, if there is one
+pub paper_front : (s : State) (o : Option (List ℕ)) (out after : List ℕ) (r : Result ℕ Fault) → length (or_none o) ≤ length out → WroteSome s o out after r → (rest : List ℕ) × (after ≡ or_none o ++ rest) × (result_unwrap_or r 0 ≡ length (or_none o))
+paper_front s None out after r room w = (after, refl, ap (λ x. result_unwrap_or x 0) w.0)
+paper_front s (Some bs) out after (Ok n) room w = (drop (length bs) out, w.2, w.0)
+paper_front s (Some bs) out after (Err f) room w = absurd (omega (arith, w.0, room))
+
+-- one list stands before another, which was written into the part behind it
+pub joined : (at n k : ℕ) (out after first second rest more : List ℕ) → out ≡ first ++ rest → at ≡ length first → after ≡ second ++ more → n ≡ length second → take (at + n) (put_mid at k out after) ≡ first ++ second
+joined at n k out after first second rest more is long then_is then_long =
+    let front : take at out ≡ first = ap (take at) is ∙ take_at first rest at (sym long) in
+    let behind : List ℕ = post_of at k out in
+    let all : put_mid at k out after ≡ (first ++ second) ++ (more ++ behind) = ap (λ l. l ++ (after ++ behind)) front ∙ ap (λ l. first ++ (l ++ behind)) then_is ∙ ap (λ l. first ++ l) (append_assoc second more behind) ∙ sym (append_assoc first second (more ++ behind)) in
+    ap (take (at + n)) all ∙ take_at (first ++ second) (more ++ behind) (at + n) (search (rules, length-append))

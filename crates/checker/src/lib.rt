@@ -1,7 +1,7 @@
 // What the program answers: a run's bytes in, slip and paper or a notice out.
 #![tactic(auto)]
 
-ghost use Rattle.std.specs.Prelude.{◌≡◌, ◌≤◌, true, ◌++◌, length, take, is_ok, IfOk, slice_index};
+ghost use Rattle.std.specs.Prelude.{◌≡◌, true, ◌++◌, take, is_ok, IfOk, slice_get};
 ghost use Rattle.checker.specs.Output.{output, answer_to, or_none, OutputClaims};
 ghost use Rattle.memory.specs.Limits.{input_limit};
 ghost use Rattle.memory.specs.Runs.{setting};
@@ -22,30 +22,23 @@ use wire::writing;
 // Room for a slip and a paper, or for a notice.
 const OUTPUT_ROOM: usize = 26;
 
-// The slip, then the paper, if there is one. Answers how many bytes they are.
-fn write_verdict<M: Model, C: Clock>(case: &Case<M, C>, room: &mut [u8]) -> usize
-    requires { length room.old ≡ 26 }
-    ensures within { result ≤ 26 }
-    ensures bytes { take result room.new ≡ slip_in (view case.now) ++ or_none (paper_in M.Model.MARK C.Clock.MARK (view case.now)) }
+// The slip, then the paper, if there is one. A case writes into lent bytes, which `room` is.
+fn write_verdict<'a, M: Model, C: Clock>(
+    case: &Case<M, C>,
+    room: &'a mut [u8; OUTPUT_ROOM],
+) -> &'a [u8]
+    ensures { result.now ≡ slip_in (view case.now) ++ or_none (paper_in M.Model.MARK C.Clock.MARK (view case.now)) }
 {
-    let Ok(slip) = case.write_slip(room) else {
-        unreachable()
-    };
-    match case.write_paper(&mut room[slip..]) {
-        Ok(paper) => slip + paper,
-        Err(_) => slip,
-    }
+    let slip = case.write_slip(room).unwrap();
+    let paper = case.write_paper(&mut room[slip..]).unwrap_or(0);
+    &room[..slip + paper]
 }
 
-fn write_refusal(fault: RunFault, room: &mut [u8]) -> usize
-    requires { length room.old ≡ 26 }
-    ensures within { result ≤ 26 }
-    ensures bytes { take result room.new ≡ notice_bytes (run_fault fault) }
+fn write_refusal<'a>(fault: RunFault, room: &'a mut [u8; OUTPUT_ROOM]) -> &'a [u8]
+    ensures { result.now ≡ notice_bytes (run_fault fault) }
 {
-    let Ok(n) = writing::write_notice(room, fault.into()) else {
-        unreachable()
-    };
-    n
+    let notice = writing::write_notice(room, fault.into()).unwrap();
+    &room[..notice]
 }
 
 // What is written for the bytes of a run, under a model and a clock; what its verdict claims of the records read is true.
@@ -60,29 +53,25 @@ pub fn check<M: Model + Drop, C: Clock + Drop>(
 {
     let mut case = Case::new(heap, Setting { model, clock })?;
     let mut room = [0; OUTPUT_ROOM];
-    let n = match case.load(bytes) {
+    let answer = match case.load(bytes) {
         Ok(_) => write_verdict(&case, &mut room),
         Err(fault) => write_refusal(fault, &mut room),
     };
-    Vec::from_slice(heap, &room[0..n])
+    Vec::from_slice(heap, answer)
 }
 
 // The bytes of the input that count.
-fn counted(input: &[u8]) -> &[u8]
+pub fn counted(input: &[u8]) -> &[u8]
     ensures { result.now ≡ take input_limit input.now }
 {
-    if input.len() <= INPUT_LIMIT {
-        input
-    } else {
-        &input[0..INPUT_LIMIT]
-    }
+    &input[..INPUT_LIMIT.min(input.len())]
 }
 
-// The byte in which a run's head marks its model, or 0 where there is none.
-fn model_mark(bytes: &[u8]) -> u8
-    ensures { result ≡ slice_index bytes.now 4 }
+// The byte in which a run's head marks its model, if there is one.
+pub fn model_mark(bytes: &[u8]) -> Option<u8>
+    ensures { result ≡ slice_get bytes.now 4 }
 {
-    if bytes.len() > 4 { bytes[4] } else { 0 }
+    bytes.get(4).copied()
 }
 
 // What the program writes for its input: the model by the head's mark, the clock Global.
@@ -90,7 +79,7 @@ pub fn answer(heap: Global, input: &[u8]) -> Result<Vec<u8>, AllocError>
     ensures { IfOk result (λ v. v.items ≡ answer_to input.now) }
 {
     let bytes = counted(input);
-    if model_mark(bytes) == <Godson as Model>::MARK {
+    if model_mark(bytes) == Some(Godson::MARK) {
         check(heap, Godson, GlobalClock, bytes)
     } else {
         check(heap, Sc, GlobalClock, bytes)

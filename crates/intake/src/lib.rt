@@ -1,66 +1,49 @@
 // What both programs take: their arguments, and the bytes of a run on standard input.
 #![tactic(auto)]
 
-ghost use Rattle.std.specs.Prelude.{◌≤◌, IfOk};
+ghost use Rattle.std.specs.Prelude.{◌≡◌, ◌≤◌, IfOk, IfSome, length, take};
 
-use anyhow::anyhow;
+use anyhow::Context;
 use memory::limits::INPUT_LIMIT;
+use std::alloc::Global;
 use std::io::Read;
 use std::{env, io};
 
 // One byte more than count, to see whether there are more.
-pub const ROOM: usize = INPUT_LIMIT + 1;
+const ROOM: usize = INPUT_LIMIT + 1;
 
 #[derive(Clone, Copy)]
 pub enum Request {
     Run,
     Help,
-    Unknown,
 }
 
-// An error that says what could not be read.
-fn unreadable(what: &str, error: io::Error) -> anyhow::Error {
-    anyhow!("{what} cannot be read: {error}")
-}
-
-// What the arguments after the program's own name ask for.
-pub fn asked(rt: &HostRuntime) -> anyhow::Result<Request> {
-    let mut words = match env::args(rt) {
-        Ok(words) => words,
-        Err(error) => return Err(unreadable("an argument", error)),
-    };
+// What the arguments after the program's own name ask for, if it can be done.
+pub fn asked(rt: &HostRuntime) -> anyhow::Result<Option<Request>> {
+    let mut words = env::args(rt).context("an argument cannot be read")?;
     let _ = words.next();
     let Some(word) = words.next() else {
-        return Ok(Request::Run);
+        return Ok(Some(Request::Run));
     };
-    if word.as_str() == "--help" && words.next().is_none() {
-        return Ok(Request::Help);
-    }
-    Ok(Request::Unknown)
+    let alone = words.next().is_none();
+    Ok((word.as_str() == "--help" && alone).then_some(Request::Help))
 }
 
-// How many bytes came, up to the room.
-fn fill(rt: &HostRuntime, buffer: &mut [u8; ROOM]) -> io::Result<usize>
-    ensures { IfOk result (λ n. n ≤ 4097) }
+// The first bytes of a reader, up to the room.
+fn front<R: Read + Drop>(heap: Global, reader: R) -> io::Result<Vec<u8>>
+    ensures within { IfOk result (λ v. length v.items ≤ 4097) }
+    ensures bytes { IfOk result (λ v. IfSome (R.remaining reader) (λ xs. v.items ≡ take 4097 xs)) }
 {
-    let mut input = rt.stdin();
-    let mut n = 0usize;
-    while n < ROOM {
-        let got = input.read(&mut buffer[n..])?;
-        if got == 0 {
-            break;
-        }
-        n += got;
-    }
-    Ok(n)
+    let mut bytes = Vec::new(heap);
+    reader.take(ROOM as u64).read_to_end(&mut bytes)?;
+    // cuts nothing off: of a reader whose bytes are not known, no contract says that `take` ends it
+    bytes.truncate(ROOM);
+    Ok(bytes)
 }
 
-// The same, with an error for the user.
-pub fn read_input(rt: &HostRuntime, buffer: &mut [u8; ROOM]) -> anyhow::Result<usize>
-    ensures { IfOk result (λ n. n ≤ 4097) }
+// The bytes of standard input, one more at most than count.
+pub fn read_input(rt: &HostRuntime) -> anyhow::Result<Vec<u8>>
+    ensures { IfOk result (λ v. length v.items ≤ 4097) }
 {
-    match fill(rt, buffer) {
-        Ok(n) => Ok(n),
-        Err(error) => Err(unreadable("standard input", error)),
-    }
+    front(rt.alloc(), rt.stdin()).context("standard input cannot be read")
 }

@@ -1,21 +1,20 @@
 // The checker as a program: a run's bytes on standard input, slip and paper or a notice on standard output.
 #![tactic(auto)]
 
-use anyhow::anyhow;
+use anyhow::{Context, bail};
 use checker::answer;
-use intake::{ROOM, Request, asked, read_input};
+use intake::{Request, asked, read_input};
 use std::io::Write;
 use std::process::ExitCode;
-use wire::tags::Tag;
+use wire::tags;
 
 // Writes the answer; a notice is an error, so that the exit status tells of it.
 fn run(rt: &HostRuntime) -> anyhow::Result<()> {
-    let mut buffer = [0; ROOM];
-    let came = read_input(rt, &mut buffer)?;
-    let output = answer(rt.alloc(), &buffer[0..came])?;
+    let input = read_input(rt)?;
+    let output = answer(rt.alloc(), &input)?;
     rt.stdout().write_all(output.as_slice())?;
-    if output.first().copied() == Some(u8::from(Tag::Notice)) {
-        return Err(anyhow!("the run is refused, and the notice says why"));
+    if output.first().copied() == Some(tags::NOTICE) {
+        bail!("the run is refused, and the notice says why");
     }
     Ok(())
 }
@@ -36,10 +35,9 @@ fn help(rt: &HostRuntime) -> anyhow::Result<()> {
 }
 
 fn choose(rt: &HostRuntime) -> anyhow::Result<()> {
-    match asked(rt)? {
+    match asked(rt)?.context("takes no argument but --help")? {
         Request::Run => run(rt),
         Request::Help => help(rt),
-        Request::Unknown => Err(anyhow!("takes no argument but --help")),
     }
 }
 
@@ -48,7 +46,7 @@ fn main(rt: HostRuntime) -> ExitCode {
     match choose(&rt) {
         Ok(()) => ExitCode::SUCCESS,
         Err(error) => {
-            let _ = eprintln!(rt; "zielwart: {error}");
+            let _ = eprintln!(rt; "zielwart: {error:#}");
             ExitCode::FAILURE
         }
     }

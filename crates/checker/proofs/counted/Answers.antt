@@ -1,6 +1,6 @@
-use Rattle.std.proofs.Common.{sym, arith}
-use Rattle.std.proofs.lemmas.List.{take_all}
+use Rattle.std.proofs.Common.{ap, ◌∙◌, take}
+use Rattle.std.proofs.lemmas.List.{take_min}
 use Rattle.checker.proofs.counted.Goals as goal
 
-pub returns-then-input-le-INPUT_LIMIT : goal.returns-then-input-le-INPUT_LIMIT
-returns-then-input-le-INPUT_LIMIT c = sym (take_all 4096 _ (omega arith))
+pub returns : goal.returns
+returns c = ap (λ n. take n c.args.input.now) c.min.ensures ∙ take_min 4096 c.args.input.now

@@ -1,18 +1,15 @@
-use Rattle.std.proofs.Common.{ℕ, ◌-◌, List, ◌++◌, length, sym, ap, ◌∙◌, append-nil, rules}
-use Rattle.case.specs.State.{State, verdict_at}
-use Rattle.case.specs.Calls.{slip_in}
+use Rattle.std.proofs.Common.{ℕ, ◌-◌, List, Ok, ◌∙◌, subst, rules}
+use Rattle.case.specs.State.{State}
+use Rattle.case.specs.Calls.{slip_in, paper_in, Wrote}
 use Rattle.case.specs.Views.{view}
-use Rattle.checker.proofs.Room.{no_paper, front_kept}
+use Rattle.checker.proofs.Room.{paper_room, paper_front, joined}
 use Rattle.checker.proofs.write_verdict.Goals as goal
 
-pub returns-in-Err : goal.returns-in-Err
-returns-in-Err g c =
+pub returns : goal.returns
+returns g c =
     let s : State = view c.args.case.now in
     let out : List ℕ = c.write_slip.new.out in
-    let slip : ℕ = c.in-Ok.slip in
-    let told = c.in-Ok.ensures in
-    let none = no_paper s g.M.Model.MARK g.C.Clock.MARK (length s.records) (verdict_at s.stage) _ _ _ (search rules) c.in-Err.ensures in
-    record {
-      within = search rules;
-      bytes = front_kept slip (length out - slip) out c.write_paper.new.out (slip_in s) _ told.2 (sym told.0) ∙ sym (append-nil (slip_in s)) ∙ ap (λ l. slip_in s ++ l) (sym none);
-    }
+    let slip : ℕ = c.unwrap-slip.result in
+    let told : Wrote s (slip_in s) c.args.room.now out (Ok slip) = subst (λ r. Wrote s (slip_in s) c.args.room.now out r) c.unwrap-slip.ensures c.write_slip.ensures in
+    let paper = paper_front s (paper_in g.M.Model.MARK g.C.Clock.MARK s) _ _ _ (search (rules, paper_room)) c.write_paper.ensures in
+    joined slip c.unwrap_or-paper.result (26 - slip) out c.write_paper.new.out (slip_in s) _ _ paper.0 told.2 told.0 paper.1 (c.unwrap_or-paper.ensures ∙ paper.2)
