@@ -1,16 +1,14 @@
 // Tells in plain words what the checker does with a run, from the first byte to the paper.
 #![tactic(auto)]
 
-ghost use Rattle.std.specs.Prelude.{◌≡◌, ◌<◌, true, length, slice_index};
-
 mod papers;
 mod reports;
 mod words;
 
-use crate::reports::{Outcome, tell, tell_input};
-use anyhow::anyhow;
-use intake::{ROOM, Request, asked, read_input};
-use memory::limits::INPUT_LIMIT;
+use crate::reports::{tell, tell_input};
+use anyhow::Context;
+use checker::{counted, model_mark};
+use intake::{Request, asked, read_input};
 use memory::models::{Godson, Model, Sc};
 use std::process::ExitCode;
 
@@ -29,46 +27,38 @@ paper that the case writes; or the refusal, and what stays in the case.
 Exit status: 0 where the run was loaded, and after --help; 1 where the run was
 refused, where standard input could not be read, and at any other argument.";
 
-// Byte 4 of a run is the mark of its model.
-fn marks_godson(bytes: &[u8]) -> bool
-    ensures yes { 4 < length bytes.now → slice_index bytes.now 4 ≡ 3 → result ≡ true }
-    ensures only { result ≡ true → (4 < length bytes.now) × (slice_index bytes.now 4 ≡ 3) }
-{
-    bytes.len() > 4 && bytes[4] == Godson::MARK
-}
-
-fn explain(rt: &HostRuntime) -> anyhow::Result<Outcome> {
-    let mut buffer = [0u8; ROOM];
-    let came = read_input(rt, &mut buffer)?;
-    let bytes = &buffer[0..came.min(INPUT_LIMIT)];
-    tell_input(rt, bytes, came > INPUT_LIMIT)?;
-    if marks_godson(bytes) {
-        tell(rt, Godson, bytes)
+fn explain(rt: &HostRuntime) -> anyhow::Result<ExitCode> {
+    let input = read_input(rt)?;
+    tell_input(rt, &input)?;
+    let bytes = counted(&input);
+    let answer = if model_mark(bytes) == Some(Godson::MARK) {
+        tell(rt, Godson, bytes)?
     } else {
-        tell(rt, Sc, bytes)
+        tell(rt, Sc, bytes)?
+    };
+    match answer {
+        Ok(_) => Ok(ExitCode::SUCCESS),
+        Err(_) => Ok(ExitCode::FAILURE),
     }
 }
 
-fn run(rt: &HostRuntime) -> anyhow::Result<Outcome> {
-    match asked(rt)? {
+fn run(rt: &HostRuntime) -> anyhow::Result<ExitCode> {
+    let unknown = "unknown argument: the only one is --help, which prints the usage";
+    match asked(rt)?.context(unknown)? {
         Request::Run => explain(rt),
         Request::Help => {
             rt.println(USAGE)?;
-            Ok(Outcome::Answered)
+            Ok(ExitCode::SUCCESS)
         }
-        Request::Unknown => Err(anyhow!(
-            "unknown argument: the only one is --help, which prints the usage"
-        )),
     }
 }
 
 // What goes wrong with the program itself is told on standard error; a refused run has been told by then.
 fn main(rt: HostRuntime) -> ExitCode {
     match run(&rt) {
-        Ok(Outcome::Answered) => ExitCode::SUCCESS,
-        Ok(Outcome::Refused) => ExitCode::FAILURE,
+        Ok(status) => status,
         Err(error) => {
-            let _ = eprintln!(rt; "explain: {error}");
+            let _ = eprintln!(rt; "explain: {error:#}");
             ExitCode::FAILURE
         }
     }

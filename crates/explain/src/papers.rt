@@ -1,9 +1,7 @@
 // What a case writes, and its paper read back field by field.
 ghost use Rattle.std.specs.Prelude.{◌≡◌, ◌-◌, ◌<◌, ◌≤◌, length, MatchOption, slice_index_or};
 
-use crate::words::{
-    Operation, clock_word, model_word, record_word, refusal_meaning, refusal_word, verdict_word,
-};
+use crate::words::{ClockName, ModelName, Operation, Records, VerdictName};
 use case::cases::Case;
 use memory::clocks::Clock;
 use memory::models::Model;
@@ -32,10 +30,11 @@ pub fn tell_writing<M: Model, C: Clock>(rt: &HostRuntime, case: &Case<M, C>) -> 
 }
 
 fn tell_unwritten(rt: &HostRuntime, what: &str, fault: Fault) -> io::Result<()> {
-    let number = u8::from(fault.refusal);
-    let word = refusal_word(fault.refusal);
-    let meaning = refusal_meaning(fault.refusal);
-    println!(rt; "  {what}: none. Writing it was refused: {number}, {word}. {meaning}")
+    let refusal = fault.refusal;
+    println!(rt;
+        "  {what}: none. Writing it was refused: {}, {refusal:?}. {refusal}",
+        u8::from(refusal)
+    )
 }
 
 fn tell_paper(rt: &HostRuntime, records: &[Record], bytes: &[u8]) -> io::Result<()> {
@@ -61,10 +60,7 @@ fn tell_fields(rt: &HostRuntime, records: &[Record], reader: &mut Reader<'_>) ->
 
 fn tell_end(rt: &HostRuntime, place: usize, rest: Result<(), ByteFault>) -> io::Result<()> {
     println!(rt; "    end at byte {place}")?;
-    match rest {
-        Ok(()) => Ok(()),
-        Err(fault) => tell_gap(rt, fault),
-    }
+    rest.or_else(|fault| tell_gap(rt, fault))
 }
 
 fn tell_gap(rt: &HostRuntime, fault: ByteFault) -> io::Result<()> {
@@ -83,12 +79,12 @@ fn tell_head(rt: &HostRuntime, part: Part<'_>) -> io::Result<()> {
         return tell_misfit(rt, "head", part);
     };
     let place = part.place;
-    let verdict_name = verdict_word(*verdict);
-    let model_name = model_word(*model);
-    let clock_name = clock_word(*clock);
-    let noun = record_word(*count as usize);
     println!(rt;
-        "    head at byte {place}: verdict {verdict} ({verdict_name}), model {model_name} (mark {model}), clock {clock_name} (mark {clock}), {count} {noun}"
+        "    head at byte {place}: verdict {verdict} ({}), model {} (mark {model}), clock {} (mark {clock}), {}",
+        VerdictName(*verdict),
+        ModelName(*model),
+        ClockName(*clock),
+        Records(usize::from(*count))
     )
 }
 
@@ -134,9 +130,5 @@ fn record_at(records: &[Record], number: u8) -> Option<Record>
         (0 < number → length records.now < number)
         (λ x. (0 < number) × (number ≤ length records.now) × (slice_index_or records.now (number - 1) x ≡ x)) }
 {
-    let count = records.len();
-    if number == 0 || number as usize > count {
-        return None;
-    }
-    Some(records[number as usize - 1])
+    records.get(usize::from(number).checked_sub(1)?).copied()
 }

@@ -1,7 +1,8 @@
-// Words for what the checker has numbers and marks for.
+// Words for records, verdicts, and the numbers and marks that stand in bytes.
+use memory::clocks::{Clock, GlobalClock, NoClock};
 use memory::kinds::Kind;
+use memory::models::{Godson, Model, Sc};
 use memory::records::Record;
-use memory::refusals::{Layer, Refusal};
 use memory::verdicts::Verdict;
 use std::fmt;
 
@@ -21,101 +22,78 @@ impl fmt::Display for Operation {
     }
 }
 
-pub fn record_word(count: usize) -> &'static str {
-    if count == 1 { "record" } else { "records" }
-}
+// So many records.
+#[derive(Clone, Copy)]
+pub struct Records(pub usize);
 
-pub fn model_word(mark: u8) -> &'static str {
-    match mark {
-        1 => "SC",
-        3 => "Godson",
-        _ => "unknown",
+impl fmt::Display for Records {
+    fn fmt<W: fmt::Write>(&self, f: &mut fmt::Formatter<W>) -> fmt::Result {
+        match self.0 {
+            1 => write!(f, "1 record"),
+            n => write!(f, "{n} records"),
+        }
     }
 }
 
-pub fn clock_word(mark: u8) -> &'static str {
-    match mark {
-        1 => "Global",
-        3 => "None",
-        _ => "unknown",
+// The model with a mark.
+#[derive(Clone, Copy)]
+pub struct ModelName(pub u8);
+
+impl fmt::Display for ModelName {
+    fn fmt<W: fmt::Write>(&self, f: &mut fmt::Formatter<W>) -> fmt::Result {
+        f.write_str(match self.0 {
+            Sc::MARK => "SC",
+            Godson::MARK => "Godson",
+            _ => "unknown",
+        })
     }
 }
 
-pub fn verdict_word(number: u8) -> &'static str {
-    match number {
-        0 => "undecided",
-        1 => "order",
-        2 => "opposed lines",
-        3 => "orphan",
-        4 => "exhausted",
-        _ => "unknown",
+// The clock with a mark.
+#[derive(Clone, Copy)]
+pub struct ClockName(pub u8);
+
+impl fmt::Display for ClockName {
+    fn fmt<W: fmt::Write>(&self, f: &mut fmt::Formatter<W>) -> fmt::Result {
+        f.write_str(match self.0 {
+            GlobalClock::MARK => "Global",
+            NoClock::MARK => "None",
+            _ => "unknown",
+        })
     }
 }
 
-pub fn verdict_meaning(verdict: Option<Verdict>) -> &'static str {
-    match verdict {
-        None => "Nothing is claimed: the run may have a legal order or none.",
-        Some(Verdict::Order) => "The run has a legal order, which the paper shows.",
-        Some(Verdict::Opposed) =>
-            "The run has no legal order: two records would each have to come before the other.",
-        Some(Verdict::Orphan(_)) => "The run has no legal order: a load read what nobody wrote.",
-        Some(Verdict::Exhausted) => "The run has no legal order: the search tried them all.",
+// The verdict with a number.
+#[derive(Clone, Copy)]
+pub struct VerdictName(pub u8);
+
+impl fmt::Display for VerdictName {
+    fn fmt<W: fmt::Write>(&self, f: &mut fmt::Formatter<W>) -> fmt::Result {
+        f.write_str(match self.0 {
+            0 => "undecided",
+            1 => "order",
+            2 => "opposed lines",
+            3 => "orphan",
+            4 => "exhausted",
+            _ => "unknown",
+        })
     }
 }
 
-pub fn refusal_word(refusal: Refusal) -> &'static str {
-    match refusal {
-        Refusal::Malformed => "Malformed",
-        Refusal::Foreign => "Foreign",
-        Refusal::Decided => "Decided",
-        Refusal::Sealed => "Sealed",
-        Refusal::Unsealed => "Unsealed",
-        Refusal::Full => "Full",
-        Refusal::Stranger => "Stranger",
-        Refusal::Kind => "Kind",
-        Refusal::Blank => "Blank",
-        Refusal::Range => "Range",
-        Refusal::Backward => "Backward",
-        Refusal::Twin => "Twin",
-        Refusal::Spent => "Spent",
-        Refusal::Bare => "Bare",
-        Refusal::Short => "Short",
-        Refusal::Unfounded => "Unfounded",
-        Refusal::Hollow => "Hollow",
-    }
-}
+// What a verdict claims, in a sentence.
+#[derive(Clone, Copy)]
+pub struct Claim(pub Option<Verdict>);
 
-pub fn refusal_meaning(refusal: Refusal) -> &'static str {
-    match refusal {
-        Refusal::Malformed =>
-            "A field has a wrong tag or length, the bytes end too early, or bytes follow the end.",
-        Refusal::Foreign => "A mark in the head is not that of the model or the clock in use.",
-        Refusal::Decided => "The case is decided, and the call would change it.",
-        Refusal::Sealed => "The case is sealed: it takes no more records and no second sealing.",
-        Refusal::Unsealed => "A search is asked of an open case.",
-        Refusal::Full => "The case already has 64 records.",
-        Refusal::Stranger =>
-            "The processor is not one of the run's, or the number of processors is not 1 to 16.",
-        Refusal::Kind => "The kind is not 1 (load), 2 (store) or 3 (fence).",
-        Refusal::Blank => "A store has the value 0, or a fence has an address or a value.",
-        Refusal::Range => "The enter or the commit reading is 2^62 or more.",
-        Refusal::Backward =>
-            "The commit reading is below the enter reading, or the enter reading below the processor's last.",
-        Refusal::Twin => "A store has the address and the value of an admitted store.",
-        Refusal::Spent => "The steps done and those asked for are more than 2^62 together.",
-        Refusal::Bare => "The verdict has no paper.",
-        Refusal::Short => "The bytes to be filled are too few.",
-        Refusal::Unfounded =>
-            "A line of the paper does not follow from the run and the lines before it.",
-        Refusal::Hollow => "The paper's conclusion fails.",
-    }
-}
-
-pub fn layer_words(layer: Layer) -> &'static str {
-    match layer {
-        Layer::RunBytes => "run bytes",
-        Layer::Content => "content of a head or a record, and calls on a case",
-        Layer::PaperBytes => "paper bytes",
-        Layer::Conclusion => "lines and conclusion",
+impl fmt::Display for Claim {
+    fn fmt<W: fmt::Write>(&self, f: &mut fmt::Formatter<W>) -> fmt::Result {
+        f.write_str(match self.0 {
+            None => "Nothing is claimed: the run may have a legal order or none.",
+            Some(Verdict::Order) => "The run has a legal order, which the paper shows.",
+            Some(Verdict::Opposed) =>
+                "The run has no legal order: two records would each have to come before the other.",
+            Some(Verdict::Orphan(_)) =>
+                "The run has no legal order: a load read what nobody wrote.",
+            Some(Verdict::Exhausted) => "The run has no legal order: the search tried them all.",
+        })
     }
 }
