@@ -1,6 +1,7 @@
 -- The room for slip and paper suffices. Assumes nothing.
-use Rattle.std.proofs.Common.{◌≡◌, ℕ, ◌+◌, ◌≤◌, List, ◌++◌, length, take, drop, Some, None, Ok, Err, Option, Result, refl, sym, ap, ◌∙◌, rules, arith}
+use Rattle.std.proofs.Common.{◌≡◌, ℕ, ◌+◌, ◌≤◌, List, [], ◌++◌, length, take, drop, Some, None, Ok, Err, Option, Result, refl, sym, ap, ◌∙◌, rules, arith}
 use borrow.Rule.Slice.PartMut.{put_mid, post_of}
+use Rattle.std.specs.Option.{unwrap_or}
 use Rattle.std.specs.Result.{result_unwrap_or}
 use Rattle.std.proofs.lemmas.List.{take_at, length-append, append_assoc}
 use Rattle.memory.specs.declared.refusals.Fault.{Fault}
@@ -8,10 +9,9 @@ use Rattle.memory.specs.declared.verdicts.Verdict.{Verdict}
 use Rattle.memory.specs.declared.verdicts.Verdict.TheVariants.{Order, Opposed, Orphan, Exhausted}
 use Rattle.case.specs.State.{State}
 use Rattle.case.specs.Calls.{paper_at, WroteSome}
-use Rattle.checker.specs.Output.{or_none}
 
 -- every paper has at most 14 bytes
-pub paper_room : (model clock n : ℕ) (v : Option Verdict) → length (or_none (paper_at v model clock n)) ≤ 14
+pub paper_room : (model clock n : ℕ) (v : Option Verdict) → length (unwrap_or (paper_at v model clock n) []) ≤ 14
 paper_room model clock n None = search rules
 paper_room model clock n (Some Order) = search rules
 paper_room model clock n (Some Opposed) = search rules
@@ -19,7 +19,7 @@ paper_room model clock n (Some (Orphan l)) = search rules
 paper_room model clock n (Some Exhausted) = search rules
 
 -- with that room, the paper stands in front, if there is one
-pub paper_front : (s : State) (o : Option (List ℕ)) (out after : List ℕ) (r : Result ℕ Fault) → length (or_none o) ≤ length out → WroteSome s o out after r → (rest : List ℕ) × (after ≡ or_none o ++ rest) × (result_unwrap_or r 0 ≡ length (or_none o))
+pub paper_front : (s : State) (o : Option (List ℕ)) (out after : List ℕ) (r : Result ℕ Fault) → length (unwrap_or o []) ≤ length out → WroteSome s o out after r → (rest : List ℕ) × (after ≡ unwrap_or o [] ++ rest) × (result_unwrap_or r 0 ≡ length (unwrap_or o []))
 paper_front s None out after r room w = (after, refl, ap (λ x. result_unwrap_or x 0) w.0)
 paper_front s (Some bs) out after (Ok n) room w = (drop (length bs) out, w.2, w.0)
 paper_front s (Some bs) out after (Err f) room w = absurd (omega (arith, w.0, room))

@@ -1,5 +1,5 @@
 -- What the program writes for its input. Assumes nothing.
-use Rattle.std.specs.Prelude.{ℕ, cond, List, [], ◌++◌, take, Some, None, Ok, Err, Option, Result, ◌==◌, slice_index}
+use Rattle.std.specs.Prelude.{ℕ, cond, List, [], ◌++◌, take, Ok, Err, Option, unwrap_or, Result, ◌==◌, slice_index}
 use Rattle.memory.specs.declared.verdicts.Verdict.{Verdict}
 use Rattle.memory.specs.Limits.{input_limit}
 use Rattle.memory.specs.Runs.{Setting, run_of}
@@ -10,13 +10,9 @@ use Rattle.case.specs.State.{State, opened}
 use Rattle.case.specs.Calls.{slip_in, paper_in, AnswerClaims}
 use Rattle.case.specs.Loading.{loading}
 
-abbrev pub or_none : Option (List ℕ) → List ℕ
-or_none None = []
-or_none (Some bs) = bs
-
 -- the slip, then the paper, if there is one; on a refusal a notice instead
 abbrev pub output_by : Result (Option Verdict) RunFault → ℕ → ℕ → State → List ℕ
-output_by (Ok v) model clock s = slip_in s ++ or_none (paper_in model clock s)
+output_by (Ok v) model clock s = slip_in s ++ unwrap_or (paper_in model clock s) []
 output_by (Err f) model clock s = notice_bytes (run_fault f)
 
 -- what is written for the bytes of a run under two marks

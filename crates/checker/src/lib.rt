@@ -1,8 +1,8 @@
 // What the program answers: a run's bytes in, slip and paper or a notice out.
 #![tactic(auto)]
 
-ghost use Rattle.std.specs.Prelude.{◌≡◌, true, ◌++◌, take, is_ok, IfOk, slice_get};
-ghost use Rattle.checker.specs.Output.{output, answer_to, or_none, OutputClaims};
+ghost use Rattle.std.specs.Prelude.{◌≡◌, true, [], ◌++◌, take, unwrap_or, is_ok, IfOk, slice_get};
+ghost use Rattle.checker.specs.Output.{output, answer_to, OutputClaims};
 ghost use Rattle.memory.specs.Limits.{input_limit};
 ghost use Rattle.memory.specs.Runs.{setting};
 ghost use Rattle.case.specs.Calls.{slip_in, paper_in};
@@ -27,7 +27,7 @@ fn write_verdict<'a, M: Model, C: Clock>(
     case: &Case<M, C>,
     room: &'a mut [u8; OUTPUT_ROOM],
 ) -> &'a [u8]
-    ensures { result.now ≡ slip_in (view case.now) ++ or_none (paper_in M.Model.MARK C.Clock.MARK (view case.now)) }
+    ensures { result.now ≡ slip_in (view case.now) ++ unwrap_or (paper_in M.Model.MARK C.Clock.MARK (view case.now)) [] }
 {
     let slip = case.write_slip(room).unwrap();
     let paper = case.write_paper(&mut room[slip..]).unwrap_or(0);

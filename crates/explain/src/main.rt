@@ -8,7 +8,7 @@ mod words;
 use crate::reports::{tell, tell_input};
 use anyhow::Context;
 use checker::{counted, model_mark};
-use intake::{Request, asked, read_input};
+use intake::{Request, asked, ended, read_input};
 use memory::models::{Godson, Model, Sc};
 use std::process::ExitCode;
 
@@ -55,11 +55,5 @@ fn run(rt: &HostRuntime) -> anyhow::Result<ExitCode> {
 
 // What goes wrong with the program itself is told on standard error; a refused run has been told by then.
 fn main(rt: HostRuntime) -> ExitCode {
-    match run(&rt) {
-        Ok(status) => status,
-        Err(error) => {
-            let _ = eprintln!(rt; "explain: {error:#}");
-            ExitCode::FAILURE
-        }
-    }
+    ended(&rt, "explain", run(&rt))
 }

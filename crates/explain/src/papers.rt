@@ -11,7 +11,7 @@ use std::io;
 use wire::faults::ByteFault;
 use wire::fields::{Field, Part, Reader, Text};
 
-// Room for a slip or a paper.
+// Room for a slip or a paper, which a case writes into lent bytes.
 const ROOM: usize = 4096;
 
 // Slip and paper are written into a buffer; the paper is read back.

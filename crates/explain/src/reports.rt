@@ -93,21 +93,18 @@ fn tell_refused<M: Model, C: Clock>(
     fault: Fault,
 ) -> io::Result<()> {
     // the head's own faults have the place 0, and all later ones a higher
-    let head_passed = fault.place > 0;
-    if head_passed {
-        tell_run(rt, case)?;
-    }
-    tell_fault(rt, fault)?;
-    if head_passed {
-        println!(rt;
-            "The case stays open with {}.",
-            Records(case.records().len())
-        )
-    } else {
-        println!(rt;
+    if fault.place == 0 {
+        tell_fault(rt, fault)?;
+        return println!(rt;
             "The head did not pass: the case stays as it was, with one processor and no records."
-        )
+        );
     }
+    tell_run(rt, case)?;
+    tell_fault(rt, fault)?;
+    println!(rt;
+        "The case stays open with {}.",
+        Records(case.records().len())
+    )
 }
 
 fn tell_fault(rt: &HostRuntime, fault: Fault) -> io::Result<()> {

@@ -63,7 +63,7 @@ impl fmt::Display for ClockName {
     }
 }
 
-// The verdict with a number.
+// The verdict with a number, as `verdict_number` gives it; the byte of a paper may be any.
 #[derive(Clone, Copy)]
 pub struct VerdictName(pub u8);
 

@@ -1,12 +1,14 @@
-// What both programs take: their arguments, and the bytes of a run on standard input.
+// What both programs take and how they end: their arguments, the bytes of a run on standard input, and the exit status.
 #![tactic(auto)]
 
-ghost use Rattle.std.specs.Prelude.{◌≡◌, ◌≤◌, IfOk, IfSome, length, take};
+ghost use Rattle.std.specs.Prelude.{◌≡◌, ◌≤◌, IfOk, IfSome, MatchResult, length, take};
+ghost use Rattle.std.specs.Process.{exit_status};
 
 use anyhow::Context;
 use memory::limits::INPUT_LIMIT;
 use std::alloc::Global;
 use std::io::Read;
+use std::process::ExitCode;
 use std::{env, io};
 
 // One byte more than count, to see whether there are more.
@@ -46,4 +48,14 @@ pub fn read_input(rt: &HostRuntime) -> anyhow::Result<Vec<u8>>
     ensures { IfOk result (λ v. length v.items ≤ 4097) }
 {
     front(rt.alloc(), rt.stdin()).context("standard input cannot be read")
+}
+
+// The exit status of a program; what went wrong is told on standard error.
+pub fn ended(rt: &HostRuntime, program: &str, outcome: anyhow::Result<ExitCode>) -> ExitCode
+    ensures { MatchResult outcome (λ status. result ≡ status) (λ _. exit_status result ≡ 1) }
+{
+    outcome.unwrap_or_else(|error| {
+        let _ = eprintln!(rt; "{program}: {error:#}");
+        ExitCode::FAILURE
+    })
 }

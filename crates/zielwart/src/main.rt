@@ -3,13 +3,19 @@
 
 use anyhow::{Context, bail};
 use checker::answer;
-use intake::{Request, asked, read_input};
+use intake::{Request, asked, ended, read_input};
 use std::io::Write;
 use std::process::ExitCode;
 use wire::tags;
 
+const USAGE: &str = "usage: zielwart < RUN > ANSWER
+Reads a run in bytes from standard input, of which the first 4,096 count, and writes its slip
+and its paper, if there is one, or a notice of the refusal, to standard output.
+docs/FORMAT.md has the bytes; the program explain says the same in words.
+Exit status: 0 where a slip was written, 1 where a notice was, or where something failed.";
+
 // Writes the answer; a notice is an error, so that the exit status tells of it.
-fn run(rt: &HostRuntime) -> anyhow::Result<()> {
+fn answer_input(rt: &HostRuntime) -> anyhow::Result<()> {
     let input = read_input(rt)?;
     let output = answer(rt.alloc(), &input)?;
     rt.stdout().write_all(output.as_slice())?;
@@ -19,35 +25,15 @@ fn run(rt: &HostRuntime) -> anyhow::Result<()> {
     Ok(())
 }
 
-fn help(rt: &HostRuntime) -> anyhow::Result<()> {
-    println!(rt; "usage: zielwart < RUN > ANSWER")?;
-    println!(rt;
-        "Reads a run in bytes from standard input, of which the first 4,096 count, and writes its slip"
-    )?;
-    println!(rt;
-        "and its paper, if there is one, or a notice of the refusal, to standard output."
-    )?;
-    println!(rt; "docs/FORMAT.md has the bytes; the program explain says the same in words.")?;
-    println!(rt;
-        "Exit status: 0 where a slip was written, 1 where a notice was, or where something failed."
-    )?;
-    Ok(())
-}
-
-fn choose(rt: &HostRuntime) -> anyhow::Result<()> {
+fn run(rt: &HostRuntime) -> anyhow::Result<ExitCode> {
     match asked(rt)?.context("takes no argument but --help")? {
-        Request::Run => run(rt),
-        Request::Help => help(rt),
+        Request::Run => answer_input(rt)?,
+        Request::Help => rt.println(USAGE)?,
     }
+    Ok(ExitCode::SUCCESS)
 }
 
 // What goes wrong, and that a run is refused, is told on standard error.
 fn main(rt: HostRuntime) -> ExitCode {
-    match choose(&rt) {
-        Ok(()) => ExitCode::SUCCESS,
-        Err(error) => {
-            let _ = eprintln!(rt; "zielwart: {error:#}");
-            ExitCode::FAILURE
-        }
-    }
+    ended(&rt, "zielwart", run(&rt))
 }
