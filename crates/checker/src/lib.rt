@@ -4,7 +4,7 @@
 ghost use Rattle.std.specs.Prelude.{◌≡◌, true, [], ◌++◌, take, unwrap_or, is_ok, IfOk, slice_get};
 ghost use Rattle.checker.specs.Output.{output, answer_to, OutputClaims};
 ghost use Rattle.memory.specs.Limits.{input_limit};
-ghost use Rattle.memory.specs.Runs.{setting};
+ghost use Rattle.memory.specs.Settings.{setting_of};
 ghost use Rattle.case.specs.Calls.{slip_in, paper_in};
 ghost use Rattle.case.specs.Views.{view};
 ghost use Rattle.wire.specs.Bytes.{notice_bytes};
@@ -44,14 +44,13 @@ fn write_refusal<'a>(fault: RunFault, room: &'a mut [u8; OUTPUT_ROOM]) -> &'a [u
 // What is written for the bytes of a run, under a model and a clock; what its verdict claims of the records read is true.
 pub fn check<M: Model + Drop, C: Clock + Drop>(
     heap: Global,
-    model: M,
-    clock: C,
+    setting: Setting<M, C>,
     bytes: &[u8],
 ) -> Result<Vec<u8>, AllocError>
     ensures bytes { IfOk result (λ v. v.items ≡ output M.Model.MARK C.Clock.MARK bytes.now) }
-    ensures claims { is_ok result ≡ true → OutputClaims (setting (M.Model.orders model) (C.Clock.earlier clock) M.Model.MARK C.Clock.MARK) bytes.now }
+    ensures claims { is_ok result ≡ true → OutputClaims (setting_of M.Model C.Clock setting) bytes.now }
 {
-    let mut case = Case::new(heap, Setting { model, clock })?;
+    let mut case = Case::new(heap, setting)?;
     let mut room = [0; OUTPUT_ROOM];
     let answer = match case.load(bytes) {
         Ok(_) => write_verdict(&case, &mut room),
@@ -80,8 +79,16 @@ pub fn answer(heap: Global, input: &[u8]) -> Result<Vec<u8>, AllocError>
 {
     let bytes = counted(input);
     if model_mark(bytes) == Some(Godson::MARK) {
-        check(heap, Godson, GlobalClock, bytes)
+        let setting = Setting {
+            model: Godson,
+            clock: GlobalClock,
+        };
+        check(heap, setting, bytes)
     } else {
-        check(heap, Sc, GlobalClock, bytes)
+        let setting = Setting {
+            model: Sc,
+            clock: GlobalClock,
+        };
+        check(heap, setting, bytes)
     }
 }

@@ -11,6 +11,7 @@ use memory::clocks::{Clock, GlobalClock};
 use memory::models::Model;
 use memory::records::Record;
 use memory::refusals::Fault;
+use memory::settings::Setting;
 use memory::verdicts::{Verdict, verdict_number};
 use std::io;
 use wire::faults::RunFault;
@@ -39,7 +40,13 @@ pub fn tell<M: Model + Drop>(
 ) -> anyhow::Result<Result<Option<Verdict>, RunFault>>
     ensures { IfOk result (λ answer. answer ≡ (loading M.Model.MARK 1 (begun 1) bytes.now).answer) }
 {
-    let mut case = Case::new(rt.alloc(), model, GlobalClock)?;
+    let mut case = Case::new(
+        rt.alloc(),
+        Setting {
+            model,
+            clock: GlobalClock,
+        },
+    )?;
     println!(rt;
         "The case is made under the model {} and the clock {}.",
         ModelName(M::MARK),

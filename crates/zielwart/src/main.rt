@@ -6,7 +6,7 @@ use checker::answer;
 use intake::{Request, asked, ended, read_input};
 use std::io::Write;
 use std::process::ExitCode;
-use wire::tags;
+use wire::tags::Tag;
 
 const USAGE: &str = "usage: zielwart < RUN > ANSWER
 Reads a run in bytes from standard input, of which the first 4,096 count, and writes its slip
@@ -19,7 +19,7 @@ fn answer_input(rt: &HostRuntime) -> anyhow::Result<()> {
     let input = read_input(rt)?;
     let output = answer(rt.alloc(), &input)?;
     rt.stdout().write_all(output.as_slice())?;
-    if output.first().copied() == Some(tags::NOTICE) {
+    if output.first().copied() == Some(u8::from(Tag::Notice)) {
         bail!("the run is refused, and the notice says why");
     }
     Ok(())
