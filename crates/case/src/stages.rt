@@ -13,6 +13,7 @@ pub enum Stage {
     Decided(Verdict),
 }
 
+// A call by name, so that one match over stage and call says what each stage lets through.
 #[derive(Clone, Copy)]
 pub enum Call {
     Admit,

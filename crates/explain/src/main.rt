@@ -36,10 +36,7 @@ fn explain(rt: &HostRuntime) -> anyhow::Result<ExitCode> {
     } else {
         tell(rt, Sc, bytes)?
     };
-    match answer {
-        Ok(_) => Ok(ExitCode::SUCCESS),
-        Err(_) => Ok(ExitCode::FAILURE),
-    }
+    Ok(answer.map_or(ExitCode::FAILURE, |_| ExitCode::SUCCESS))
 }
 
 fn run(rt: &HostRuntime) -> anyhow::Result<ExitCode> {

@@ -15,7 +15,8 @@ pub struct Lines {
     ghost pairs: { paired most_records items.items ≡ true },
 }
 
-// How many lines were listed, and whether the last of them is opposed to one before it.
+// How many lines were listed, and whether the last of them is opposed to one before it. Both are told whatever happened, so that
+// neither could be left out of an Option.
 #[derive(Clone, Copy)]
 pub struct Listed {
     pub count: u64,

@@ -27,7 +27,7 @@ const GODSON: Setting<Godson, GlobalClock> = Setting {
     clock: GlobalClock,
 };
 
-// A line's rule, first, second and third.
+// A line's rule, first, second and third: the four bytes of a paper, which the tests pin.
 type Numbers = (u8, u8, u8, u8);
 
 fn numbers(line: Line) -> Numbers {
@@ -335,13 +335,11 @@ fn over_more_than_sixty_four_records_nothing_is_listed(rt: HostRuntime) -> Resul
     );
     are_lines(&rt, &lines, &[(2, 1, 2, 0), (2, 1, 3, 0), (2, 1, 4, 0)]);
     assert!(rt; Premises::new(&SC, &records[0..64], &[]).is_ok());
-    match Premises::new(&SC, &records, &[]) {
-        Ok(_) => Err(Fail::new("65 records are taken")),
-        Err(refusal) => {
-            assert_eq!(rt; u8::from(refusal), 6);
-            Ok(())
-        }
-    }
+    assert_eq!(rt;
+        Premises::new(&SC, &records, &[]).err().map(u8::from),
+        Some(6)
+    );
+    Ok(())
 }
 
 // The clock's line of a pair.
@@ -425,7 +423,7 @@ const FOLLOWS: [(Numbers, bool); 43] = [
 fn follow_as_told(rt: &impl Abort, premises: &Premises<'_, Sc, GlobalClock>) -> Result<(), Fail> {
     for (i, row) in FOLLOWS.iter().enumerate() {
         let ((rule, first, second, third), want) = *row;
-        let rule = Rule::try_from(rule).ok().ok_or("no rule")?;
+        let rule = Rule::try_from(rule).map_err(|_| "no rule")?;
         let line = Line {
             rule,
             first,
@@ -441,8 +439,7 @@ fn follow_as_told(rt: &impl Abort, premises: &Premises<'_, Sc, GlobalClock>) -> 
 fn a_line_follows_only_with_two_records_and_a_third_where_its_rule_names_one(
     rt: HostRuntime,
 ) -> Result<(), Fail> {
-    match Premises::new(&SC, &RECORDS, &given_lines()) {
-        Ok(premises) => follow_as_told(&rt, &premises),
-        Err(_) => Err(Fail::new("5 records are refused")),
-    }
+    let lines = given_lines();
+    let premises = Premises::new(&SC, &RECORDS, &lines).map_err(|_| "5 records are refused")?;
+    follow_as_told(&rt, &premises)
 }

@@ -1,6 +1,6 @@
 // What loading tells of bytes, and what it leaves in the case.
 use crate::tools::{
-    Admitted, Decided, EMPTY, MESSAGE, Numbers, ORPHAN, SC, ScCase, admitted, decided, entry, told,
+    Admitted, Decided, EMPTY, MESSAGE, ORPHAN, Refused, SC, ScCase, admitted, decided, entry, told,
 };
 use std::fmt::Display;
 use std::process::Abort;
@@ -12,7 +12,7 @@ fn load_then_admit(
     rt: &impl Abort,
     case: &mut ScCase,
     bytes: &[u8],
-    load: Result<Decided, Numbers>,
+    load: Result<Decided, Refused>,
     admit: Admitted,
 ) -> Result<(), Fail> {
     load_noted(rt, case, bytes, load, admit, "")
@@ -23,7 +23,7 @@ fn load_noted(
     rt: &impl Abort,
     case: &mut ScCase,
     bytes: &[u8],
-    load: Result<Decided, Numbers>,
+    load: Result<Decided, Refused>,
     admit: Admitted,
     note: impl Display + Drop,
 ) -> Result<(), Fail> {
@@ -75,7 +75,7 @@ fn a_run_cut_at_any_length_is_refused_at_the_field_that_is_cut(
 }
 
 // A place in the message run and the byte that is put there, then what loading tells and a further admission.
-type Change = (usize, u8, Result<Decided, Numbers>, Admitted);
+type Change = (usize, u8, Result<Decided, Refused>, Admitted);
 
 const SHAPES: [Change; 24] = [
     // a first field that is a record, an end, a paper's head, or none

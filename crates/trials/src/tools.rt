@@ -15,16 +15,16 @@ pub const SC: Setting<Sc, GlobalClock> = Setting {
     clock: GlobalClock,
 };
 
-// A refusal's number, its layer's number, and its place.
-pub type Numbers = (u8, u8, usize);
+// A refusal's number, its layer's number, and its place: what a notice says, which the tests pin.
+pub type Refused = (u8, u8, usize);
 
 // What admission answers: the number of the record, or the refusal.
-pub type Admitted = Result<usize, Numbers>;
+pub type Admitted = Result<usize, Refused>;
 
 // A verdict's number, and the record that it names.
 pub type Decided = (u8, Option<u8>);
 
-// Processor, kind, address, value, enter and commit, then what admission answers.
+// Processor, kind, address, value, enter and commit, then what admission answers. A table of entries would name every field in every row.
 pub type Row = ((u8, u8, u32, u64, u64, u64), Admitted);
 
 // Two processors, all readings 10 and 90: two stores on the first, two loads on the second.
@@ -46,7 +46,7 @@ pub const ORPHAN: [u8; 75] = [
 pub const EMPTY: [u8; 9] = [0x01, 0, 3, 2, 1, 1, 0x03, 0, 0];
 
 // What a call answers, or the numbers of its refusal.
-pub fn told<T: Drop, E: Into<Fault> + Drop>(r: Result<T, E>) -> Result<T, Numbers> {
+pub fn told<T: Drop, E: Into<Fault> + Drop>(r: Result<T, E>) -> Result<T, Refused> {
     r.map_err(|e| {
         let f: Fault = e.into();
         (u8::from(f.refusal), u8::from(f.layer), f.place)
@@ -57,7 +57,7 @@ pub fn admitted(r: Result<u8, Fault>) -> Admitted {
     told(r).map(usize::from)
 }
 
-pub fn decided<E: Into<Fault> + Drop>(r: Result<Option<Verdict>, E>) -> Result<Decided, Numbers> {
+pub fn decided<E: Into<Fault> + Drop>(r: Result<Option<Verdict>, E>) -> Result<Decided, Refused> {
     told(r).map(|verdict| {
         let named = match verdict {
             Some(Verdict::Orphan(load)) => Some(load),

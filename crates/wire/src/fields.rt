@@ -30,7 +30,7 @@ pub enum Field<'a> {
     End { place: usize },
 }
 
-// The content of a run's head: the number of processors, and the marks of a model and a clock.
+// The content of a run's head: the number of processors, and the marks of a model and a clock, byte by byte as the format has them.
 #[derive(Clone, Copy)]
 pub struct RunHead {
     pub processors: u8,

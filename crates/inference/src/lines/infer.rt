@@ -39,7 +39,7 @@ impl Lines {
         self.items.as_slice()
     }
 
-    // Lists the next line, if there is one, and answers whether it is opposed to one before it.
+    // Lists the next line, if there is one, and answers whether it is opposed to one before it: a plain question of yes and no.
     fn list_next<M: Model, C: Clock>(&mut self, run: &Run<'_, M, C>) -> Option<bool>
         ensures { Took (next_of (run_is run.now) (lines_of self.old)) (lines_of self.old) (lines_of self.new) result }
     {

@@ -15,7 +15,7 @@ impl<M: Model, C: Clock> Premises<'_, M, C> {
     fn if_fits(&self, line: Line) -> Option<Line>
         ensures { result ≡ if_fits (fits (run_in self.now) (lines_in self.now) line) line }
     {
-        let fits = self.passes(line) && !is_listed(self.lines, line.first, line.second);
+        let fits = self.follows(line) && !is_listed(self.lines, line.first, line.second);
         fits.then_some(line)
     }
 

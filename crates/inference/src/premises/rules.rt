@@ -62,9 +62,12 @@ impl<M: Model, C: Clock> Premises<'_, M, C> {
         (1..=self.run.count()).any(|store| self.is_overwritten(load, second, y, store))
     }
 
-    // The line names two different records and a third as its rule does, and the rule gives it.
-    pub(super) fn passes(&self, line: Line) -> bool
-        ensures { result ≡ follows_from (run_in self.now) (lines_in self.now) line }
+    // The line names two different records and a third as its rule does, and the rule gives it: it follows from the records and the
+    // lines. What follows from these records follows from them and any more.
+    #[tactic(auto, using(crate::proofs::Sound::follows_stays))]
+    pub fn follows(&self, line: Line) -> bool
+        ensures value { result ≡ follows_from (run_in self.now) (lines_in self.now) line }
+        ensures stays { Stays (setting_in self.now) (records_in self.now) (lines_in self.now) line }
     {
         let Line {
             rule,
@@ -93,13 +96,5 @@ impl<M: Model, C: Clock> Premises<'_, M, C> {
                     && is_listed(self.lines, first, third)
                     && is_listed(self.lines, third, second),
             }
-    }
-
-    // The line follows from the records and the lines. What follows from these records follows from them and any more.
-    pub fn follows(&self, line: Line) -> bool
-        ensures value { result ≡ follows_from (run_in self.now) (lines_in self.now) line }
-        ensures stays { Stays (setting_in self.now) (records_in self.now) (lines_in self.now) line }
-    {
-        self.passes(line)
     }
 }
