@@ -184,6 +184,7 @@ impl From<Paper<'_>> for Verdict {
 }
 
 impl Paper<'_> {
+    // Counted before anything is written, since nothing is where the bytes are too few.
     #[tactic(auto, using(crate::proofs::Over::lines_long))]
     fn body_len(self) -> usize
         ensures length { result ≡ length (paper_body self.entry) }
