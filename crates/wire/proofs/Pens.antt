@@ -1,5 +1,5 @@
 -- Writes of a pen, one after the other. Assumes nothing.
-use Rattle.std.proofs.Common.{◌≡◌, ℕ, ◌+◌, ◌<◌, ◌≤◌, List, [], ◌++◌, get_or, subst, length, take, drop, Ok, refl, sym, ap, ◌∙◌, append_assoc, append-nil, arith, length-append}
+use Rattle.std.proofs.Common.{◌≡◌, ℕ, ◌+◌, ◌<◌, ◌≤◌, List, [], ◌++◌, get_or, subst, length, take, drop, Ok, sym, ap, ◌∙◌, append_assoc, arith, length-append}
 use Rattle.std.proofs.lemmas.List.{drop-drop, take-append-drop}
 use Rattle.std.proofs.lemmas.List.Folds.{length-flat_map-take}
 use Rattle.wire.specs.declared.writing.pen.Pen.{Pen}
@@ -8,10 +8,7 @@ use Rattle.wire.specs.Written.{Written}
 use Rattle.wire.specs.Pens.{done, rest, HasRoom, Put}
 use Rattle.wire.proofs.Over.{fields_more}
 
--- nothing is written
-pub put_none : (p : Pen) → Put p p []
-put_none p = record { same = refl; at = omega arith; long = refl; done = sym (append-nil (done p)); rest = refl }
-
+-- the same bytes, said otherwise
 pub put_as : {p q : Pen} {a b : List ℕ} → a ≡ b → Put p q a → Put p q b
 put_as {p} {q} e x = subst (Put p q) e x
 
