@@ -4,7 +4,7 @@ use Rattle.std.proofs.lemmas.Grind.{common_steps}
 use Rattle.std.proofs.lemmas.List.{take_at, length-drop}
 use Rattle.wire.specs.declared.faults.RunFault.{RunFault}
 use Rattle.wire.specs.Bytes.{field, all_of, record_field, run_head}
-use Rattle.wire.proofs.Over.{records_long}
+use Rattle.wire.proofs.InOrder.{records_long}
 use Rattle.case.specs.State.{State}
 use Rattle.case.specs.Loading.{place_of, Front, Kept}
 use Rattle.case.specs.Parts.{Walked, Headed}

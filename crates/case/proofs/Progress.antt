@@ -8,7 +8,7 @@ use Rattle.wire.specs.declared.fields.Reader.{Reader}
 use Rattle.wire.specs.declared.fields.Text.TheVariants.{Run}
 use Rattle.wire.specs.Fields.{Piece, Shown, next_field, later}
 use Rattle.wire.specs.Seen.{left, Passed}
-use Rattle.wire.proofs.Over.{all_of_end}
+use Rattle.wire.proofs.InOrder.{all_of_end}
 use Rattle.case.specs.State.{State}
 use Rattle.case.specs.Loading.{stopped, ended_as, load_sort, load_field, load_fields}
 use Rattle.case.specs.Parts.{fell, Turned, Gained, went_field, Walked}

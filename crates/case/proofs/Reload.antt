@@ -10,7 +10,7 @@ use Rattle.wire.specs.Bytes.{field, all_of, digits, number_on, entry_bytes, entr
 use Rattle.wire.specs.Fields.{whole, entry_of}
 use Rattle.wire.proofs.Digits.{digits_back}
 use Rattle.wire.proofs.Found.{wholes, run_found}
-use Rattle.wire.proofs.Over.{records_long}
+use Rattle.wire.proofs.InOrder.{records_long}
 use Rattle.case.specs.State.{State, opened}
 use Rattle.case.specs.Calls.{sealed, sealed_verdict}
 use Rattle.case.specs.Loading.{Loaded, load_entry, load_fields, loading, ended_as, Reloads}

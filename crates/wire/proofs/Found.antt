@@ -6,7 +6,7 @@ use Rattle.memory.specs.declared.records.Record.{Record}
 use Rattle.memory.specs.Admission.{logged}
 use Rattle.wire.specs.Bytes.{field, all_of, entry_bytes, record_field, run_bytes}
 use Rattle.wire.specs.Fields.{Piece, whole, piece_on, pieces_in, pieces}
-use Rattle.wire.proofs.Over.{records_long}
+use Rattle.wire.proofs.InOrder.{records_long}
 
 cut : (k tag size : ℕ) (c rest : List ℕ) → length c ≡ size → piece_on (leb size (length (c ++ rest))) tag (take size (c ++ rest)) (λ _. pieces_in k (drop size (c ++ rest))) ≡ whole tag c ∷ pieces_in k rest
 cut k tag size c rest e =

@@ -1,5 +1,5 @@
 pub mod Digits
 pub mod Found
-pub mod Over
+pub mod InOrder
 pub mod Pens
 pub mod Walk

@@ -6,7 +6,7 @@ use Rattle.wire.specs.declared.writing.pen.Pen.{Pen}
 use Rattle.wire.specs.Bytes.{all_of}
 use Rattle.wire.specs.Written.{Written}
 use Rattle.wire.specs.Pens.{done, rest, HasRoom, Put}
-use Rattle.wire.proofs.Over.{fields_more}
+use Rattle.wire.proofs.InOrder.{fields_more}
 
 -- the same bytes, said otherwise
 pub put_as : {p q : Pen} {a b : List ℕ} → a ≡ b → Put p q a → Put p q b

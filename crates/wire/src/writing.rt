@@ -185,7 +185,7 @@ impl From<Paper<'_>> for Verdict {
 
 impl Paper<'_> {
     // Counted before anything is written, since nothing is where the bytes are too few.
-    #[tactic(auto, using(crate::proofs::Over::lines_long))]
+    #[tactic(auto, using(crate::proofs::InOrder::lines_long))]
     fn body_len(self) -> usize
         ensures length { result ≡ length (paper_body self.entry) }
         ensures small { result + 10 < 2 ^ 64 }

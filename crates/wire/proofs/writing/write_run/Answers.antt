@@ -1,6 +1,6 @@
 use Rattle.std.proofs.Common.{◌+◌, ◌<◌, ◌++◌, [], length, rules, arith, length-append, ap}
 use Rattle.wire.specs.Bytes.{field, all_of, record_field}
-use Rattle.wire.proofs.Over.{records_long}
+use Rattle.wire.proofs.InOrder.{records_long}
 use Rattle.wire.proofs.Pens.{written, put_put}
 use Rattle.wire.proofs.writing.write_run.Goals as goal
 
