@@ -4,7 +4,7 @@ use Rattle.memory.specs.declared.records.Record.{Record}
 use Rattle.memory.specs.Legal.{Claims}
 use Rattle.memory.specs.Reading.{orphan, first_orphan, Least}
 use Rattle.memory.specs.Runs.{Setting, run_of}
-use Rattle.memory.proofs.Loops.{picked}
+use Rattle.memory.proofs.Least.{picked}
 use Rattle.memory.proofs.Orphans.{orphan_none, empty_legal}
 use Rattle.case.specs.Calls.{orphan_verdict, sealed_verdict}
 

@@ -73,7 +73,8 @@ pub fn model_mark(bytes: &[u8]) -> Option<u8>
     bytes.get(4).copied()
 }
 
-// What the program writes for its input: the model by the head's mark, the clock Global.
+// What the program writes for its input: the model by the head's mark, the clock Global. The two models are two types, so that
+// each caller of `model_mark` branches itself.
 pub fn answer(heap: Global, input: &[u8]) -> Result<Vec<u8>, AllocError>
     ensures { IfOk result (λ v. v.items ≡ answer_to input.now) }
 {

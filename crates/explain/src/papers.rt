@@ -1,11 +1,9 @@
 // What a case writes, and its paper read back field by field.
-ghost use Rattle.std.specs.Prelude.{◌≡◌, ◌-◌, ◌<◌, ◌≤◌, length, MatchOption, slice_index_or};
-
 use crate::words::{ClockName, ModelName, Operation, Records, VerdictName};
 use case::cases::Case;
 use memory::clocks::Clock;
 use memory::models::Model;
-use memory::records::Record;
+use memory::records::{Record, record_at};
 use memory::refusals::Fault;
 use std::io;
 use wire::faults::ByteFault;
@@ -122,13 +120,4 @@ fn tell_orphan(rt: &HostRuntime, records: &[Record], part: Part<'_>) -> io::Resu
         }
         None => println!(rt; "    orphan at byte {place}: record {number}, which the run has not"),
     }
-}
-
-// The record with a number; they are counted from 1.
-fn record_at(records: &[Record], number: u8) -> Option<Record>
-    ensures { MatchOption result
-        (0 < number → length records.now < number)
-        (λ x. (0 < number) × (number ≤ length records.now) × (slice_index_or records.now (number - 1) x ≡ x)) }
-{
-    records.get(usize::from(number).checked_sub(1)?).copied()
 }

@@ -35,7 +35,7 @@ impl fmt::Display for Records {
     }
 }
 
-// The model with a mark.
+// The model with a mark; the byte of a head may be any.
 #[derive(Clone, Copy)]
 pub struct ModelName(pub u8);
 
@@ -49,7 +49,7 @@ impl fmt::Display for ModelName {
     }
 }
 
-// The clock with a mark.
+// The clock with a mark; the byte of a head may be any.
 #[derive(Clone, Copy)]
 pub struct ClockName(pub u8);
 

@@ -9,7 +9,7 @@ use Rattle.memory.specs.Runs.{Run}
 use Rattle.inference.specs.Rules.{names_third, follows}
 use Rattle.inference.specs.Next.{fits, NoLarger, Next, or_else, seek, line_of, if_fits, tried, least_of_pair, least_of_first, least_of_rule, next}
 use Rattle.inference.proofs.Follows.{Following, following, third_within}
-use Rattle.inference.proofs.Loops.{Sought, sought, none_some}
+use Rattle.inference.proofs.First.{Sought, sought, none_some}
 
 pub rule_back : (r : Rule) → rule_at (rule_number r) ≡ Some r
 rule_back Clock = refl
@@ -54,8 +54,8 @@ numbered (suc (suc (suc (suc (suc zero))))) some few = (Coherence, refl)
 numbered (suc (suc (suc (suc (suc (suc zero)))))) some few = (FromRead, refl)
 numbered (suc (suc (suc (suc (suc (suc (suc k))))))) some few = (Transitive, omega arith)
 
-seek_none : {X : Type 0} (f : ℕ → Option X) (n : ℕ) → seek f n ≡ None → (k : ℕ) → 0 < k → k ≤ n → f k ≡ None
-seek_none f n e = subst (Sought f n) e (sought f n)
+none_before : {X : Type 0} (f : ℕ → Option X) (n : ℕ) → seek f n ≡ None → (k : ℕ) → 0 < k → k ≤ n → f k ≡ None
+none_before f n e = subst (Sought f n) e (sought f n)
 
 seek_some : {X : Type 0} (f : ℕ → Option X) (n : ℕ) (x : X) → seek f n ≡ Some x → (k : ℕ) × (0 < k) × (k ≤ n) × (f k ≡ Some x) × ((j : ℕ) → 0 < j → j < k → f j ≡ None)
 seek_some f n x e = subst (Sought f n) e (sought f n)
@@ -67,7 +67,7 @@ module _ {X : Type 0} (f : ℕ → Option X) (n : ℕ) where
     where
       go : (o : Option X) → f 0 ≡ o → or_else o (seek f n) ≡ None → (k : ℕ) → k ≤ n → f k ≡ None
       go None at-0 e zero le = at-0
-      go None at-0 e (suc k) le = seek_none f n e (suc k) (omega arith) le
+      go None at-0 e (suc k) le = none_before f n e (suc k) (omega arith) le
       go (Some x) at-0 e k le = absurd (none_some (Some x) x e refl)
 
   either_some : (x : X) → or_else (f 0) (seek f n) ≡ Some x → (k : ℕ) × (f k ≡ Some x) × ((j : ℕ) → j < k → f j ≡ None)
@@ -97,17 +97,17 @@ module _ (R : Run) (ls : List Line) where
     at_pair e = at_third (both_none (tried R ls m.rule m.first m.second) R.size e m.third (third_within R (names_third m.rule) m.third parts.third))
 
     at_first : least_of_first R ls m.rule m.first ≡ None → ⊥
-    at_first e = at_pair (seek_none (least_of_pair R ls m.rule m.first) R.size e m.second parts.second.some parts.second.within)
+    at_first e = at_pair (none_before (least_of_pair R ls m.rule m.first) R.size e m.second parts.second.some parts.second.within)
 
     at_rule : at_number (rule_number m.rule) ≡ None → ⊥
     at_rule e =
-        at_first (seek_none (least_of_first R ls m.rule) R.size (ap (least_of_rule R ls) (sym (rule_back m.rule)) ∙ e) m.first parts.first.some parts.first.within)
+        at_first (none_before (least_of_first R ls m.rule) R.size (ap (least_of_rule R ls) (sym (rule_back m.rule)) ∙ e) m.first parts.first.some parts.first.within)
 
   found_none : next R ls ≡ None → (m : Line) → fits R ls m ≡ false
   unfolding next
   found_none e m =
       let n = number_within m.rule in
-      ⊎_elim (λ fit. absurd (at_rule m fit (seek_none at_number 7 e (rule_number m.rule) n.0 n.1))) (λ no'. no') (cases_Bool (fits R ls m))
+      ⊎_elim (λ fit. absurd (at_rule m fit (none_before at_number 7 e (rule_number m.rule) n.0 n.1))) (λ no'. no') (cases_Bool (fits R ls m))
 
   -- a line that was tried and is there fits
   tried_fits : (l k : Line) → if_fits (fits R ls k) k ≡ Some l → (fits R ls k ≡ true) × (k ≡ l)

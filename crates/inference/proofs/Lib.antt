@@ -2,7 +2,7 @@ pub mod Follows
 pub mod Least
 pub mod Listed
 pub mod Onward
-pub mod Loops
+pub mod First
 pub mod Opposed
 pub mod Pairs
 pub mod Places

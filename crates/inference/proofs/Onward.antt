@@ -20,12 +20,6 @@ after_more n r = record { count = n + r.count; lines = r.lines; opposed = r.oppo
 abbrev pub Reached : Run → ℕ → List Line → ℕ → List Line → Type 0
 Reached R k ls n now = (n ≤ k) × (list_lines R k ls ≡ after_more n (list_lines R (k - n) now))
 
-pub reached_none : (R : Run) (k : ℕ) (ls : List Line) → Reached R k ls 0 ls
-reached_none R k ls =
-    let all : k ≡ k - 0 = omega arith in
-    let same : (r : Listing) → r ≡ after_more 0 r = λ r. let e : r.count ≡ 0 + r.count = omega arith in λ i. record { count = e i; lines = r.lines; opposed = r.opposed } in
-    (omega arith, ap (λ j. list_lines R j ls) all ∙ same (list_lines R (k - 0) ls))
-
 module _ (R : Run) (k : ℕ) (ls : List Line) (n : ℕ) (now : List Line) (h : Reached R k ls n now) where
   -- all that were asked for are listed
   pub all_listed : k ≤ n → record { count = k; lines = now; opposed = false } ≡ list_lines R k ls

@@ -11,7 +11,7 @@ use Rattle.std.specs.Option.{MatchOption, IfSome, IsSomeAnd, option_map}
 use Rattle.std.specs.Bool.{IsTrue, MatchBool}
 use Rattle.inference.specs.Next.{seek}
 use Rattle.inference.specs.Rules.{some}
-use Rattle.inference.proofs.Loops.{Sought, sought_once, some_at, some_from}
+use Rattle.inference.proofs.First.{Sought, sought_once, some_at, some_from}
 
 -- the item at a place below the length
 there : {A : Type 0} {P Q : A → Type 0} (o : Option A) → IsSomeAnd o P → IfSome o Q → (x : A) × P x × Q x

@@ -16,7 +16,7 @@ use Rattle.inference.specs.Rules.{known, has_pair, listed, reads, rivals, overwr
 use Rattle.inference.specs.Worth.{Holds, Stays}
 use Rattle.inference.proofs.Follows.{known_is, is_known, following}
 use Rattle.inference.proofs.Listed.{listed_push}
-use Rattle.inference.proofs.Loops.{some_at, some_from}
+use Rattle.inference.proofs.First.{some_at, some_from}
 use Rattle.inference.proofs.Places.{place, From, Ordered, ordered, before}
 
 -- each line follows from the records and the lines before it

@@ -6,7 +6,7 @@ use Rattle.memory.specs.declared.lines.Rule.{Rule}
 use Rattle.memory.specs.Runs.{Run}
 use Rattle.inference.specs.Rules.{known, listed, by_rule, names_third, third_fits, follows}
 use Rattle.inference.specs.Next.{or_else, seek, line_of, if_fits, tried, least_of_pair}
-use Rattle.inference.proofs.Loops.{seek_none}
+use Rattle.inference.proofs.First.{seek_none}
 
 or_none : {X : Type 0} (o : Option X) → or_else o None ≡ o
 or_none None = refl

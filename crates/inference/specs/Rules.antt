@@ -14,10 +14,6 @@ among n a = nat_lt 0 a && nat_le a n
 abbrev pub known : Run → ℕ → Bool
 known R a = among R.size a
 
--- what is read where there is no line
-abbrev pub blank_line : Line
-blank_line = record { rule = Clock; first = 0; second = 0; third = 0 }
-
 -- the line says that a comes before b
 abbrev pub has_pair : ℕ → ℕ → Line → Bool
 has_pair a b l = l.first == a && l.second == b

@@ -8,7 +8,7 @@ use Rattle.memory.specs.declared.refusals.Refusal.{Refusal}
 use Rattle.memory.specs.declared.refusals.Refusal.TheVariants.{Full}
 use Rattle.memory.specs.Limits.{most_records}
 use Rattle.memory.specs.Runs.{Setting, Run, run_of}
-use Rattle.memory.specs.Settings.{setting_of}
+use Rattle.memory.specs.Settings.{setting_lent}
 use Rattle.inference.specs.declared.lines.Lines.{Lines}
 use Rattle.inference.specs.declared.lines.Listed.{Listed}
 use Rattle.inference.specs.declared.premises.Premises.{Premises}
@@ -19,7 +19,7 @@ use Rattle.inference.specs.Worth.{opposes}
 module _ {M C : Type 0} {g : model.Ghosts M} {h : clock.Ghosts C} where
   -- the model and the clock, by what models and clocks of their kinds say, and by their marks
   abbrev pub setting_is : records.Run M C g h → Setting
-  setting_is r = setting_of g h r.setting.now
+  setting_is r = setting_lent g h r.setting
 
   -- the run that the records make under them
   abbrev pub run_is : records.Run M C g h → Run

@@ -14,13 +14,15 @@ use std::{env, io};
 // One byte more than count, to see whether there are more.
 const ROOM: usize = INPUT_LIMIT + 1;
 
+// What a program is asked for. Each program does it itself: a function that took the work to be done would have to require that it
+// may be done, and no public function requires anything.
 #[derive(Clone, Copy)]
 pub enum Request {
     Run,
     Help,
 }
 
-// What the arguments after the program's own name ask for, if it can be done.
+// What the arguments after the program's own name ask for: a run where there is none, help where there is --help alone.
 pub fn asked(rt: &HostRuntime) -> anyhow::Result<Option<Request>> {
     let mut words = env::args(rt).context("an argument cannot be read")?;
     let _ = words.next();

@@ -1,6 +1,7 @@
 -- Admission keeps the rules of records. Assumes nothing.
 use Rattle.std.proofs.Common.{◌≡◌, ℕ, ◌+◌, ◌<◌, ◌≤◌, true, false, cond, ◌&&◌, eqb, ltb, leb, List, [], ◌∷◌, ◌++◌, length, is_ok, Ok, sym, refl, ap, ◌∙◌, subst, ⊎_elim, append_assoc, append-nil, arith, length-append}
 use Rattle.std.proofs.lemmas.List.{get_or_append_left, get_or_push}
+use Rattle.std.proofs.lemmas.List.Folds.{list_any_at}
 use Rattle.std.proofs.lemmas.List.Sums.{fold_push}
 use Rattle.std.proofs.lemmas.Bool.{and_parts, and_from, or_parts, eq-eqb, leb-false, ltb-false, cases_eq, cond-true, cond-false, both_ways, ne_eqb}
 use Rattle.std.proofs.lemmas.Bool.Decides.{nat_tests}
@@ -13,7 +14,6 @@ use Rattle.memory.specs.Limits.{most_records, reading_limit}
 use Rattle.std.specs.List.{list_any}
 use Rattle.memory.specs.Runs.{blank}
 use Rattle.memory.proofs.Admitted.{Judged, judged, admits_again}
-use Rattle.memory.proofs.Loops.{none_at}
 
 -- the rules, and that no record of a processor entered after the last one did
 record Kept (p : ℕ) (rs : List Record) : Type 0 where
@@ -84,7 +84,7 @@ module _ (rs : List Record) (r : Record) where
     no_twin : (i : ℕ) → i < length rs → is_store (nth rs i).kind ≡ true → is_store r.kind ≡ true → (nth rs i).address ≡ r.address → (nth rs i).value ≡ r.value → ⊥
     no_twin i lt si sr a v =
         let none : list_any (same_store (logged r)) rs ≡ false = sym (ap (λ b. b && list_any (same_store (logged r)) rs) sr) ∙ single in
-        both_ways _ (none_at (same_store (logged r)) rs i blank none lt) (and_from (is_store (nth rs i).kind) _ si (and_from (eqb (nth rs i).address r.address) _ (eq-eqb _ _ a) (eq-eqb _ _ v)))
+        both_ways _ none (list_any_at (same_store (logged r)) rs i blank lt (and_from (is_store (nth rs i).kind) _ si (and_from (eqb (nth rs i).address r.address) _ (eq-eqb _ _ a) (eq-eqb _ _ v))))
 
     last_old : (i : ℕ) → i < length rs → (nth rs i).enter ≤ last_enter more (nth rs i).processor
     last_old i lt =

@@ -1,5 +1,5 @@
 pub mod Admitted
 pub mod Lawful
-pub mod Loops
+pub mod Least
 pub mod Orphans
 pub mod Present

@@ -9,7 +9,7 @@ use Rattle.std.specs.List.{list_any}
 use Rattle.memory.specs.Runs.{Setting, Run, Known, run_of, blank, at}
 use Rattle.memory.specs.Legal.{writes, memory, Legal, NoOrder}
 use Rattle.memory.specs.Reading.{reads_from, orphan}
-use Rattle.memory.proofs.Loops.{none_at}
+use Rattle.std.proofs.lemmas.List.Folds.{list_any_at}
 use Rattle.memory.proofs.Present.{Distinct, distinct, present}
 
 -- the records of xs, in their order, leave v at the address, or one of them has written what it holds
@@ -52,7 +52,7 @@ orphan_none S rs l some within e order h =
     let reads : reads_from x (at rs w) ≡ true =
     and_from (is_load x.kind) _ p.0 (and_from (not (eqb x.value 0)) _ q.0 (and_from (is_store (at rs w).kind) _ wrote.0 (and_from (eqb (at rs w).address x.address) _ wrote.1 (eq-eqb _ _ (s.1.value ∙ sym read)))))
     in
-    both_ways _ (none_at (reads_from x) rs (w - 1) blank unwritten (omega (arith, s.1.known.some, s.1.known.within))) reads)
+    both_ways _ unwritten (list_any_at (reads_from x) rs (w - 1) blank (omega (arith, s.1.known.some, s.1.known.within)) reads))
     (source R (R.addr l) 0 (take i order) (All-take (Known R) i order (all_known R order (distinct R order h.known h.once))))
 
 -- the empty order is a legal order of no records

@@ -15,7 +15,7 @@ fn is_blank(kind: Kind, e: Entry) -> bool
     match kind {
         Kind::Load => false,
         Kind::Store => e.value == 0,
-        Kind::Fence => !(e.address == 0 && e.value == 0),
+        Kind::Fence => e.address != 0 || e.value != 0,
     }
 }
 

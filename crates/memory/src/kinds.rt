@@ -13,6 +13,7 @@ pub enum Kind {
     Fence = 3,
 }
 
+// Written out for each enum that has numbers: an impl by a macro could have no clause.
 impl From<Kind> for u8 {
     ghost from_gives = { λ kind r. r ≡ kind_number kind };
 
@@ -37,6 +38,7 @@ impl TryFrom<u8> for Kind {
     }
 }
 
+// Each question has its relation in the specs, which a comparison in its place would not name.
 impl Kind {
     pub fn is_load(self) -> bool
         ensures { result ≡ is_load self }

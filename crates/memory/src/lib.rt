@@ -7,6 +7,7 @@ pub mod kinds;
 pub mod limits;
 pub mod lines;
 pub mod models;
+pub mod numbers;
 pub mod reading;
 pub mod records;
 pub mod refusals;

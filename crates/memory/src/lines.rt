@@ -3,6 +3,8 @@ ghost use Rattle.std.specs.Prelude.{◌≡◌};
 ghost use Rattle.std.specs.Result.{result_ok};
 ghost use Rattle.memory.specs.Numbers.{rule_number, rule_at};
 
+use crate::numbers::UnknownNumber;
+
 // Each rule with its number.
 #[derive(Clone, Copy, Debug, PartialEq, Eq)]
 pub enum Rule {
@@ -15,11 +17,8 @@ pub enum Rule {
     Transitive = 7,
 }
 
-// A number that no rule has.
-#[derive(Clone, Copy, Debug, PartialEq, Eq)]
-pub struct UnknownRule;
-
-// The record `first` comes before the record `second`. Only coherence and transitive lines name a third; at the others it is 0.
+// The record `first` comes before the record `second`. Only coherence and transitive lines name a third; at the others it is 0, which
+// no record has, so that rules and bytes go by numbers alone.
 #[derive(Clone, Copy, Debug, PartialEq, Eq)]
 pub struct Line {
     pub rule: Rule,
@@ -50,11 +49,11 @@ impl From<Rule> for u8 {
 }
 
 impl TryFrom<u8> for Rule {
-    type Error = UnknownRule;
+    type Error = UnknownNumber;
 
     ghost try_from_gives = { λ number r. result_ok r ≡ rule_at number };
 
-    fn try_from(number: u8) -> Result<Rule, UnknownRule> {
+    fn try_from(number: u8) -> Result<Rule, UnknownNumber> {
         match number {
             1 => Ok(Rule::Clock),
             2 => Ok(Rule::Model),
@@ -63,7 +62,7 @@ impl TryFrom<u8> for Rule {
             5 => Ok(Rule::Coherence),
             6 => Ok(Rule::FromRead),
             7 => Ok(Rule::Transitive),
-            _ => Err(UnknownRule),
+            _ => Err(UnknownNumber),
         }
     }
 }

@@ -1,6 +1,6 @@
 // What is logged, and what is admitted.
-ghost use Rattle.std.specs.Prelude.{◌≡◌};
-ghost use Rattle.memory.specs.Runs.{shares};
+ghost use Rattle.std.specs.Prelude.{◌≡◌, ◌<◌, ◌≤◌, length, MatchOption};
+ghost use Rattle.memory.specs.Runs.{at, shares};
 
 use crate::kinds::Kind;
 
@@ -15,7 +15,8 @@ pub struct Entry {
     pub commit: u64,
 }
 
-// A record that was admitted to a run. It took effect at some time from its enter to its commit reading, its pending period.
+// A record that was admitted to a run. A type of its own, though only its kind differs: what is not judged cannot be taken for it.
+// It took effect at some time from its enter to its commit reading, its pending period.
 #[derive(Clone, Copy)]
 pub struct Record {
     pub processor: u8,
@@ -33,4 +34,13 @@ impl Record {
     {
         !self.kind.is_fence() && !other.kind.is_fence() && self.address == other.address
     }
+}
+
+// The record with a number; they are counted from 1.
+pub fn record_at(records: &[Record], number: u8) -> Option<Record>
+    ensures { MatchOption result
+        (0 < number → length records.now < number)
+        (λ r. (0 < number) × (number ≤ length records.now) × (r ≡ at records.now number)) }
+{
+    records.get(usize::from(number).checked_sub(1)?).copied()
 }

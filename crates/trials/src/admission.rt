@@ -1,5 +1,5 @@
 // Which records a case takes, and which processors.
-use crate::tools::{Row, SC, ScCase, admit_rows, admitted, decided, entry, told};
+use crate::tools::{Row, SC, ScCase, admit_rows, entry, told};
 use std::process::Abort;
 use std::test::Fail;
 
@@ -86,20 +86,20 @@ fn fill(rt: &impl Abort, case: &mut ScCase) {
 fn sixty_four_records_are_admitted_and_no_more(rt: HostRuntime) -> Result<(), Fail> {
     let mut case = ScCase::new(rt.alloc(), SC)?;
     fill(&rt, &mut case);
-    assert_eq!(rt; admitted(case.admit(entry(0, 2, 16, 65))), Err((6, 2, 65)));
+    assert_eq!(rt; told(case.admit(entry(0, 2, 16, 65))), Err((6, 2, 65)));
     // full comes before all that is wrong with the record
-    assert_eq!(rt; admitted(case.admit(entry(1, 4, 16, 0))), Err((6, 2, 65)));
+    assert_eq!(rt; told(case.admit(entry(1, 4, 16, 0))), Err((6, 2, 65)));
     let mut bytes = [0; 2154];
     assert_eq!(rt; told(case.write_run(&mut bytes)), Ok(2121));
     bytes[2118] = 0x02;
     bytes[2120] = 0x1e;
     bytes[2151] = 0x03;
-    assert_eq!(rt; decided(case.load(&bytes)), Err((6, 2, 2118)));
+    assert_eq!(rt; told(case.load(&bytes)), Err((6, 2, 2118)));
     assert_eq!(rt; case.records().len(), 64);
-    assert_eq!(rt; admitted(case.admit(entry(0, 2, 16, 65))), Err((6, 2, 65)));
+    assert_eq!(rt; told(case.admit(entry(0, 2, 16, 65))), Err((6, 2, 65)));
     // sealed comes before full
-    assert_eq!(rt; decided(case.seal()), Ok((0, None)));
-    assert_eq!(rt; admitted(case.admit(entry(0, 2, 16, 65))), Err((4, 2, 65)));
+    assert_eq!(rt; told(case.seal()), Ok(None));
+    assert_eq!(rt; told(case.admit(entry(0, 2, 16, 65))), Err((4, 2, 65)));
     Ok(())
 }
 
@@ -107,19 +107,19 @@ fn sixty_four_records_are_admitted_and_no_more(rt: HostRuntime) -> Result<(), Fa
 fn one_to_sixteen_processors_open_a_case(rt: HostRuntime) -> Result<(), Fail> {
     let mut case = ScCase::new(rt.alloc(), SC)?;
     assert_eq!(rt; told(case.open(0)), Err((7, 2, 1)));
-    assert_eq!(rt; admitted(case.admit(entry(0, 2, 16, 1))), Ok(1));
+    assert_eq!(rt; told(case.admit(entry(0, 2, 16, 1))), Ok(1));
     assert_eq!(rt; told(case.open(0)), Err((7, 2, 2)));
     assert_eq!(rt; told(case.open(17)), Err((7, 2, 2)));
     assert_eq!(rt; (case.processors(), case.records().len()), (1, 1));
     // a refused opening leaves a sealed case sealed
-    assert_eq!(rt; decided(case.seal()), Ok((0, None)));
+    assert_eq!(rt; told(case.seal()), Ok(None));
     assert_eq!(rt; told(case.open(255)), Err((7, 2, 2)));
-    assert_eq!(rt; admitted(case.admit(entry(0, 2, 32, 1))), Err((4, 2, 2)));
+    assert_eq!(rt; told(case.admit(entry(0, 2, 32, 1))), Err((4, 2, 2)));
     // another begins anew
     assert_eq!(rt; told(case.open(16)), Ok(()));
     assert_eq!(rt; (case.processors(), case.records().len()), (16, 0));
-    assert_eq!(rt; admitted(case.admit(entry(16, 2, 16, 1))), Err((7, 2, 1)));
-    assert_eq!(rt; admitted(case.admit(entry(15, 2, 16, 1))), Ok(1));
+    assert_eq!(rt; told(case.admit(entry(16, 2, 16, 1))), Err((7, 2, 1)));
+    assert_eq!(rt; told(case.admit(entry(15, 2, 16, 1))), Ok(1));
     assert_eq!(rt; told(case.open(1)), Ok(()));
     assert_eq!(rt; (case.processors(), case.records().len()), (1, 0));
     Ok(())

@@ -1,5 +1,4 @@
 // Which lines are listed, in which order, and which oppose each other.
-use crate::tools::SC;
 use crate::writing::{OLD, is_old};
 use inference::lines::{Lines, Listed};
 use inference::premises::Premises;
@@ -17,14 +16,20 @@ use wire::writing::{Paper, PaperHead, write_paper};
 // More lines than any run has.
 const ALL: u64 = u64::MAX;
 
-const SC_NO_CLOCK: Setting<Sc, NoClock> = Setting {
-    model: Sc,
-    clock: NoClock,
+// Lent, as a list of lines takes them.
+const SC: Setting<&Sc, &GlobalClock> = Setting {
+    model: &Sc,
+    clock: &GlobalClock,
 };
 
-const GODSON: Setting<Godson, GlobalClock> = Setting {
-    model: Godson,
-    clock: GlobalClock,
+const SC_NO_CLOCK: Setting<&Sc, &NoClock> = Setting {
+    model: &Sc,
+    clock: &NoClock,
+};
+
+const GODSON: Setting<&Godson, &GlobalClock> = Setting {
+    model: &Godson,
+    clock: &GlobalClock,
 };
 
 // A line's rule, first, second and third: the four bytes of a paper, which the tests pin.
@@ -52,7 +57,7 @@ fn listed(r: Result<Listed, Refusal>) -> Result<(u64, bool), u8> {
 fn list_all<M: Model, C: Clock>(
     rt: &impl Abort,
     lines: &mut Lines,
-    setting: &Setting<M, C>,
+    setting: Setting<&M, &C>,
     records: &[Record],
     rows: &[Numbers],
     opposed: bool,
@@ -99,7 +104,7 @@ fn the_message_run_has_six_lines_and_their_paper_is_these_bytes(
     rt: HostRuntime,
 ) -> Result<(), Fail> {
     let mut lines = Lines::new(rt.alloc())?;
-    list_all(&rt, &mut lines, &SC, &sending(), &SENT, true);
+    list_all(&rt, &mut lines, SC, &sending(), &SENT, true);
     let head = PaperHead {
         model: 1,
         clock: 1,
@@ -137,7 +142,7 @@ fn lines_listed_in_pieces_are_the_same(rt: HostRuntime) -> Result<(), Fail> {
         (2, (2, false)),
         (100, (3, true)),
     ] {
-        assert_eq!(rt; listed(lines.infer(&SC, &sending(), k)), Ok(want));
+        assert_eq!(rt; listed(lines.infer(SC, &sending(), k)), Ok(want));
     }
     are_lines(&rt, &lines, &SENT);
     Ok(())
@@ -155,9 +160,9 @@ fn under_godson_the_message_run_has_six_other_lines(rt: HostRuntime) -> Result<(
         (7, 4, 3, 1),
     ];
     let mut lines = Lines::new(rt.alloc())?;
-    list_all(&rt, &mut lines, &GODSON, &sending(), &want, false);
+    list_all(&rt, &mut lines, GODSON, &sending(), &want, false);
     assert_eq!(rt;
-        listed(lines.infer(&GODSON, &sending(), ALL)),
+        listed(lines.infer(GODSON, &sending(), ALL)),
         Ok((0, false))
     );
     Ok(())
@@ -214,8 +219,8 @@ fn a_load_of_a_stale_value_is_opposed_only_where_the_clock_speaks(
     let stale = &RECORDS[0..3];
     let want = [(1, 1, 2, 0), (1, 1, 3, 0), (1, 2, 3, 0), (5, 2, 1, 3)];
     let mut lines = Lines::new(rt.alloc())?;
-    list_all(&rt, &mut lines, &SC, stale, &want, true);
-    list_all(&rt, &mut lines, &SC_NO_CLOCK, stale, &[(3, 1, 3, 0)], false);
+    list_all(&rt, &mut lines, SC, stale, &want, true);
+    list_all(&rt, &mut lines, SC_NO_CLOCK, stale, &[(3, 1, 3, 0)], false);
     Ok(())
 }
 
@@ -234,15 +239,8 @@ fn the_clock_lists_a_line_only_where_a_commit_is_below_an_enter(
         ..touching
     };
     let mut lines = Lines::new(rt.alloc())?;
-    list_all(&rt, &mut lines, &SC, &[first, touching], &[], false);
-    list_all(
-        &rt,
-        &mut lines,
-        &SC,
-        &[first, later],
-        &[(1, 1, 2, 0)],
-        false,
-    );
+    list_all(&rt, &mut lines, SC, &[first, touching], &[], false);
+    list_all(&rt, &mut lines, SC, &[first, later], &[(1, 1, 2, 0)], false);
     Ok(())
 }
 
@@ -257,7 +255,7 @@ fn lines_go_on_behind_more_records_and_are_never_sorted_again(rt: HostRuntime) -
     let mut lines = Lines::new(rt.alloc())?;
     for (n, count) in [(2usize, 1), (3, 2), (4, 3)] {
         let first = &records[0..n];
-        assert_eq!(rt; listed(lines.infer(&SC, first, ALL)), Ok((count, false)));
+        assert_eq!(rt; listed(lines.infer(SC, first, ALL)), Ok((count, false)));
     }
     // a line of a smaller rule comes behind those that were listed
     let want = [
@@ -283,35 +281,23 @@ fn a_load_comes_before_the_store_that_overwrites_what_it_reads(
     ];
     let want = [(2, 1, 2, 0), (3, 1, 3, 0), (6, 3, 2, 0)];
     let mut lines = Lines::new(rt.alloc())?;
-    list_all(&rt, &mut lines, &SC, &records, &want, false);
+    list_all(&rt, &mut lines, SC, &records, &want, false);
     Ok(())
 }
 
-// The pair behind a pair of 1 to 20.
-fn pair_behind(first: u8, second: u8) -> (u8, u8) {
-    if second < 20 {
-        (first, second + 1)
-    } else {
-        (first.saturating_add(1), first.saturating_add(2))
-    }
-}
-
-// The lines are those of the model for each pair, and 19 and 20 are the last.
+// The lines are those of the model for each pair of 1 to 20, in order.
 fn are_all_pairs(rt: &impl Abort, lines: &[Line]) {
-    let mut pair = (1, 2);
-    for line in lines {
-        let (first, second) = pair;
+    let pairs = (1..20u8).flat_map(|first| (first + 1..=20).map(move |second| (first, second)));
+    for (line, (first, second)) in lines.iter().zip(pairs) {
         assert_eq!(rt; numbers(*line), (2, first, second, 0));
-        pair = pair_behind(first, second);
     }
-    assert_eq!(rt; pair, (20, 21));
 }
 
 #[test]
 fn twenty_loads_of_one_processor_have_a_line_for_every_pair(rt: HostRuntime) -> Result<(), Fail> {
     let mut lines = Lines::new(rt.alloc())?;
     assert_eq!(rt;
-        listed(lines.infer(&SC, &[record(0, Kind::Load, 16, 0); 20], ALL)),
+        listed(lines.infer(SC, &[record(0, Kind::Load, 16, 0); 20], ALL)),
         Ok((190, false))
     );
     are_all_pairs(&rt, lines.as_slice());
@@ -323,20 +309,17 @@ fn over_more_than_sixty_four_records_nothing_is_listed(rt: HostRuntime) -> Resul
     let records = [record(0, Kind::Load, 16, 0); 65];
     let mut lines = Lines::new(rt.alloc())?;
     assert_eq!(rt;
-        listed(lines.infer(&SC, &records[0..2], ALL)),
+        listed(lines.infer(SC, &records[0..2], ALL)),
         Ok((1, false))
     );
-    assert_eq!(rt; listed(lines.infer(&SC, &records, ALL)), Err(6));
-    assert_eq!(rt; listed(lines.infer(&SC, &records, 0)), Err(6));
+    assert_eq!(rt; listed(lines.infer(SC, &records, ALL)), Err(6));
+    assert_eq!(rt; listed(lines.infer(SC, &records, 0)), Err(6));
     are_lines(&rt, &lines, &[(2, 1, 2, 0)]);
-    assert_eq!(rt;
-        listed(lines.infer(&SC, &records[0..64], 2)),
-        Ok((2, false))
-    );
+    assert_eq!(rt; listed(lines.infer(SC, &records[0..64], 2)), Ok((2, false)));
     are_lines(&rt, &lines, &[(2, 1, 2, 0), (2, 1, 3, 0), (2, 1, 4, 0)]);
-    assert!(rt; Premises::new(&SC, &records[0..64], &[]).is_ok());
+    assert!(rt; Premises::new(SC, &records[0..64], &[]).is_ok());
     assert_eq!(rt;
-        Premises::new(&SC, &records, &[]).err().map(u8::from),
+        Premises::new(SC, &records, &[]).err().map(u8::from),
         Some(6)
     );
     Ok(())
@@ -440,6 +423,6 @@ fn a_line_follows_only_with_two_records_and_a_third_where_its_rule_names_one(
     rt: HostRuntime,
 ) -> Result<(), Fail> {
     let lines = given_lines();
-    let premises = Premises::new(&SC, &RECORDS, &lines).map_err(|_| "5 records are refused")?;
+    let premises = Premises::new(SC, &RECORDS, &lines).map_err(|_| "5 records are refused")?;
     follow_as_told(&rt, &premises)
 }

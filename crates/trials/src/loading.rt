@@ -1,7 +1,6 @@
 // What loading tells of bytes, and what it leaves in the case.
-use crate::tools::{
-    Admitted, Decided, EMPTY, MESSAGE, ORPHAN, Refused, SC, ScCase, admitted, decided, entry, told,
-};
+use crate::tools::{Admitted, EMPTY, MESSAGE, ORPHAN, Refused, SC, ScCase, entry, told};
+use memory::verdicts::Verdict;
 use std::fmt::Display;
 use std::process::Abort;
 use std::test::Fail;
@@ -12,10 +11,10 @@ fn load_then_admit(
     rt: &impl Abort,
     case: &mut ScCase,
     bytes: &[u8],
-    load: Result<Decided, Refused>,
+    load: Result<Option<Verdict>, Refused>,
     admit: Admitted,
-) -> Result<(), Fail> {
-    load_noted(rt, case, bytes, load, admit, "")
+) {
+    load_noted(rt, case, bytes, load, admit, "");
 }
 
 // The same, with what a failed assertion tells of the bytes.
@@ -23,14 +22,17 @@ fn load_noted(
     rt: &impl Abort,
     case: &mut ScCase,
     bytes: &[u8],
-    load: Result<Decided, Refused>,
+    load: Result<Option<Verdict>, Refused>,
     admit: Admitted,
     note: impl Display + Drop,
-) -> Result<(), Fail> {
-    assert_eq!(rt; decided(case.load(&ORPHAN)), Ok((3, Some(2))), "{note}");
-    assert_eq!(rt; decided(case.load(bytes)), load, "{note}");
-    assert_eq!(rt; admitted(case.admit(entry(0, 1, 16, 0))), admit, "{note}");
-    Ok(())
+) {
+    assert_eq!(rt;
+        told(case.load(&ORPHAN)),
+        Ok(Some(Verdict::Orphan(2))),
+        "{note}"
+    );
+    assert_eq!(rt; told(case.load(bytes)), load, "{note}");
+    assert_eq!(rt; told(case.admit(entry(0, 1, 16, 0))), admit, "{note}");
 }
 
 const AS_IT_WAS: Admitted = Err((3, 2, 3));
@@ -47,7 +49,7 @@ fn cut_field(left: usize) -> usize {
 }
 
 // The records before it stay.
-fn after_cut(left: usize) -> Admitted {
+fn after_cut(left: u8) -> Admitted {
     if left < 6 {
         AS_IT_WAS
     } else {
@@ -60,22 +62,24 @@ fn a_run_cut_at_any_length_is_refused_at_the_field_that_is_cut(
     rt: HostRuntime,
 ) -> Result<(), Fail> {
     let mut case = ScCase::new(rt.alloc(), SC)?;
-    for n in 0..141 {
+    for left in 0..141u8 {
+        let n = usize::from(left);
         let note = format_args!("cut to {n}");
         load_noted(
             &rt,
             &mut case,
-            &MESSAGE[0..n],
+            &MESSAGE[..n],
             Err((1, 1, cut_field(n))),
-            after_cut(n),
+            after_cut(left),
             note,
-        )?;
+        );
     }
-    load_then_admit(&rt, &mut case, &MESSAGE, Ok((0, None)), Err((4, 2, 5)))
+    load_then_admit(&rt, &mut case, &MESSAGE, Ok(None), Err((4, 2, 5)));
+    Ok(())
 }
 
 // A place in the message run and the byte that is put there, then what loading tells and a further admission.
-type Change = (usize, u8, Result<Decided, Refused>, Admitted);
+type Change = (usize, u8, Result<Option<Verdict>, Refused>, Admitted);
 
 const SHAPES: [Change; 24] = [
     // a first field that is a record, an end, a paper's head, or none
@@ -107,7 +111,7 @@ const SHAPES: [Change; 24] = [
     (140, 1, Err((1, 1, 138)), Ok(5)),
     (139, 1, Err((1, 1, 138)), Ok(5)),
     // nothing is wrong
-    (140, 0, Ok((0, None)), Err((4, 2, 5))),
+    (140, 0, Ok(None), Err((4, 2, 5))),
 ];
 
 const CONTENTS: [Change; 24] = [
@@ -115,7 +119,7 @@ const CONTENTS: [Change; 24] = [
     (3, 0, Err((7, 2, 0)), AS_IT_WAS),
     (3, 17, Err((7, 2, 0)), AS_IT_WAS),
     (3, 255, Err((7, 2, 0)), AS_IT_WAS),
-    (3, 16, Ok((0, None)), Err((4, 2, 5))),
+    (3, 16, Ok(None), Err((4, 2, 5))),
     (3, 1, Err((7, 2, 72)), Ok(3)),
     // marks of model and clock
     (4, 0, Err((2, 2, 0)), AS_IT_WAS),
@@ -135,7 +139,7 @@ const CONTENTS: [Change; 24] = [
     (71, 9, Err((11, 2, 39)), Ok(2)),
     (47, 16, Err((12, 2, 39)), Ok(2)),
     // it stores another value, which leaves the third an orphan
-    (55, 2, Ok((3, Some(3))), Err((3, 2, 5))),
+    (55, 2, Ok(Some(Verdict::Orphan(3))), Err((3, 2, 5))),
     // the last record
     (108, 9, Err((7, 2, 105)), Ok(4)),
     (109, 9, Err((8, 2, 105)), Ok(4)),
@@ -146,9 +150,7 @@ fn load_changed(rt: &impl Abort, case: &mut ScCase, changes: &[Change]) -> Resul
     for change in changes {
         let (at, byte, load, admit) = *change;
         let mut bytes = MESSAGE;
-        if at < bytes.len() {
-            bytes[at] = byte;
-        }
+        *bytes.get_mut(at).ok_or("no such byte")? = byte;
         load_noted(
             rt,
             case,
@@ -156,7 +158,7 @@ fn load_changed(rt: &impl Abort, case: &mut ScCase, changes: &[Change]) -> Resul
             load,
             admit,
             format_args!("{byte} at {at}"),
-        )?;
+        );
     }
     Ok(())
 }
@@ -174,30 +176,30 @@ fn a_byte_that_is_changed_is_told_at_its_field_and_what_came_before_stays(
 #[test]
 fn a_run_begins_with_its_head_and_ends_with_its_end(rt: HostRuntime) -> Result<(), Fail> {
     let mut case = ScCase::new(rt.alloc(), SC)?;
-    load_then_admit(&rt, &mut case, &[], Err((1, 1, 0)), AS_IT_WAS)?;
-    load_then_admit(&rt, &mut case, &MESSAGE[6..141], Err((1, 1, 0)), AS_IT_WAS)?;
+    load_then_admit(&rt, &mut case, &[], Err((1, 1, 0)), AS_IT_WAS);
+    load_then_admit(&rt, &mut case, &MESSAGE[6..141], Err((1, 1, 0)), AS_IT_WAS);
     load_then_admit(
         &rt,
         &mut case,
         &MESSAGE[138..141],
         Err((1, 1, 0)),
         AS_IT_WAS,
-    )?;
+    );
     let mut bytes = [0; 144];
-    assert_eq!(rt; decided(case.load(&MESSAGE)), Ok((0, None)));
+    assert_eq!(rt; told(case.load(&MESSAGE)), Ok(None));
     assert_eq!(rt; told(case.write_run(&mut bytes)), Ok(141));
-    load_then_admit(&rt, &mut case, &bytes[0..142], Err((1, 1, 141)), Ok(5))?;
+    load_then_admit(&rt, &mut case, &bytes[0..142], Err((1, 1, 141)), Ok(5));
     // a second end is no better
     bytes[141] = 0x03;
-    load_then_admit(&rt, &mut case, &bytes, Err((1, 1, 141)), Ok(5))?;
+    load_then_admit(&rt, &mut case, &bytes, Err((1, 1, 141)), Ok(5));
+    load_then_admit(&rt, &mut case, &bytes[0..141], Ok(None), Err((4, 2, 5)));
     load_then_admit(
         &rt,
         &mut case,
-        &bytes[0..141],
-        Ok((0, None)),
-        Err((4, 2, 5)),
-    )?;
-    load_then_admit(&rt, &mut case, &EMPTY, Ok((1, None)), Err((3, 2, 1)))?;
+        &EMPTY,
+        Ok(Some(Verdict::Order)),
+        Err((3, 2, 1)),
+    );
     assert_eq!(rt; case.processors(), 2);
     Ok(())
 }
@@ -209,15 +211,16 @@ fn loading_tells_the_first_of_several_faults(rt: HostRuntime) -> Result<(), Fail
     let mut bytes = MESSAGE;
     bytes[3] = 0;
     bytes[4] = 2;
-    load_then_admit(&rt, &mut case, &bytes, Err((2, 2, 0)), AS_IT_WAS)?;
+    load_then_admit(&rt, &mut case, &bytes, Err((2, 2, 0)), AS_IT_WAS);
     bytes[2] = 4;
-    load_then_admit(&rt, &mut case, &bytes, Err((1, 1, 0)), AS_IT_WAS)?;
+    load_then_admit(&rt, &mut case, &bytes, Err((1, 1, 0)), AS_IT_WAS);
     let mut bytes = MESSAGE;
     bytes[42] = 2;
     bytes[43] = 0;
-    load_then_admit(&rt, &mut case, &bytes, Err((7, 2, 39)), Ok(2))?;
-    load_then_admit(&rt, &mut case, &bytes[0..71], Err((1, 1, 39)), Ok(2))?;
-    load_then_admit(&rt, &mut case, &bytes[0..72], Err((7, 2, 39)), Ok(2))?;
+    load_then_admit(&rt, &mut case, &bytes, Err((7, 2, 39)), Ok(2));
+    load_then_admit(&rt, &mut case, &bytes[0..71], Err((1, 1, 39)), Ok(2));
+    load_then_admit(&rt, &mut case, &bytes[0..72], Err((7, 2, 39)), Ok(2));
     bytes[22] = 0;
-    load_then_admit(&rt, &mut case, &bytes[0..50], Err((9, 2, 6)), Ok(1))
+    load_then_admit(&rt, &mut case, &bytes[0..50], Err((9, 2, 6)), Ok(1));
+    Ok(())
 }

@@ -5,22 +5,8 @@ use wire::faults::ByteFault;
 use wire::fields::{Field, Part, Reader, Text};
 use wire::writing::{Paper, PaperHead, write_notice, write_paper};
 
-// A field's name, place and content; or the place of a fault.
-type Seen<'a> = Result<(&'static str, usize, &'a [u8]), usize>;
-
-fn part<'a>(name: &'static str, p: Part<'a>) -> Seen<'a> {
-    Ok((name, p.place, p.content))
-}
-
-fn seen<'a>(r: Result<Field<'a>, ByteFault>) -> Seen<'a> {
-    match r.map_err(|e| e.place)? {
-        Field::Head(p) => part("head", p),
-        Field::Record(p) => part("record", p),
-        Field::Line(p) => part("line", p),
-        Field::Order(p) => part("order", p),
-        Field::Orphan(p) => part("orphan", p),
-        Field::End { place } => Ok(("end", place, &[])),
-    }
+fn part(place: usize, content: &[u8]) -> Part<'_> {
+    Part { place, content }
 }
 
 // The place of the first byte that is left, if one is.
@@ -38,37 +24,40 @@ const PAPER: [u8; 33] = [
 fn a_paper_is_read_field_by_field(rt: HostRuntime) {
     let mut reader = Reader::over(Text::Paper, &PAPER);
     assert_eq!(rt; rest(&reader), Some(0));
-    assert_eq!(rt; seen(reader.next()), Ok(("head", 0, &[2, 1, 1, 9][..])));
-    assert_eq!(rt; seen(reader.next()), Ok(("line", 7, &[1, 2, 3, 4][..])));
-    assert_eq!(rt; seen(reader.next()), Ok(("line", 14, &[5, 6, 7, 8][..])));
+    assert_eq!(rt; reader.next(), Ok(Field::Head(part(0, &[2, 1, 1, 9]))));
+    assert_eq!(rt; reader.next(), Ok(Field::Line(part(7, &[1, 2, 3, 4]))));
+    assert_eq!(rt; reader.next(), Ok(Field::Line(part(14, &[5, 6, 7, 8]))));
     assert_eq!(rt; rest(&reader), Some(21));
-    assert_eq!(rt; seen(reader.next()), Ok(("order", 21, &[11, 12][..])));
-    assert_eq!(rt; seen(reader.next()), Ok(("orphan", 26, &[13][..])));
-    assert_eq!(rt; seen(reader.next()), Ok(("end", 30, &[][..])));
+    assert_eq!(rt; reader.next(), Ok(Field::Order(part(21, &[11, 12]))));
+    assert_eq!(rt; reader.next(), Ok(Field::Orphan(part(26, &[13]))));
+    assert_eq!(rt; reader.next(), Ok(Field::End { place: 30 }));
     assert_eq!(rt; rest(&reader), None);
-    assert_eq!(rt; seen(reader.next()), Err(33));
+    assert_eq!(rt; reader.next(), Err(ByteFault { place: 33 }));
 }
 
-// The first field of a paper.
-fn first(bytes: &[u8]) -> Seen<'_> {
-    let mut reader = Reader::over(Text::Paper, bytes);
-    seen(reader.next())
-}
-
-// It has this name, stands at 0 and has no content.
-fn first_is(rt: &impl Abort, bytes: &[u8], name: &'static str) {
-    assert_eq!(rt; first(bytes), Ok((name, 0, &[][..])), "{bytes:?}");
+// The first field of a paper is this.
+fn first_is(rt: &impl Abort, bytes: &[u8], field: Field<'_>) {
+    assert_eq!(rt;
+        Reader::over(Text::Paper, bytes).next(),
+        Ok(field),
+        "{bytes:?}"
+    );
 }
 
 fn first_fails(rt: &impl Abort, bytes: &[u8]) {
-    assert_eq!(rt; first(bytes), Err(0), "{bytes:?}");
+    let fault = ByteFault { place: 0 };
+    assert_eq!(rt;
+        Reader::over(Text::Paper, bytes).next(),
+        Err(fault),
+        "{bytes:?}"
+    );
 }
 
 #[test]
 fn a_paper_has_no_field_of_a_run_and_no_end_with_content(rt: HostRuntime) {
-    first_is(&rt, &[0x1f, 0, 0], "end");
+    first_is(&rt, &[0x1f, 0, 0], Field::End { place: 0 });
     first_fails(&rt, &[0x1f, 0, 1, 7]);
-    first_is(&rt, &[0x12, 0, 0], "order");
+    first_is(&rt, &[0x12, 0, 0], Field::Order(part(0, &[])));
     first_fails(&rt, &[0x13, 0, 1]);
     first_fails(&rt, &[0x12, 1, 0, 7]);
     first_fails(&rt, &[0x1f, 0]);
@@ -78,9 +67,9 @@ fn a_paper_has_no_field_of_a_run_and_no_end_with_content(rt: HostRuntime) {
     }
     // a fault leaves the reader where it was
     let mut reader = Reader::over(Text::Paper, &[0x12, 0, 1, 5, 0x1f, 0, 1, 7]);
-    assert_eq!(rt; seen(reader.next()), Ok(("order", 0, &[5][..])));
-    assert_eq!(rt; seen(reader.next()), Err(4));
-    assert_eq!(rt; seen(reader.next()), Err(4));
+    assert_eq!(rt; reader.next(), Ok(Field::Order(part(0, &[5]))));
+    assert_eq!(rt; reader.next(), Err(ByteFault { place: 4 }));
+    assert_eq!(rt; reader.next(), Err(ByteFault { place: 4 }));
     assert_eq!(rt; rest(&reader), Some(4));
 }
 

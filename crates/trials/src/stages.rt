@@ -1,15 +1,15 @@
 // What sealing decides, and what a sealed or decided case refuses.
-use crate::tools::{Row, SC, ScCase, admit_rows, admitted, decided, entry, told};
-use memory::verdicts::verdict_number;
+use crate::tools::{Row, SC, ScCase, admit_rows, entry, told};
+use memory::verdicts::{Verdict, verdict_number};
 use std::process::Abort;
 use std::test::Fail;
 
 // A sound record, one with a bad kind and a second sealing are all told the same.
 fn is_closed(rt: &impl Abort, case: &mut ScCase, refusal: u8, records: usize) {
     let want = (refusal, 2, records.saturating_add(1));
-    assert_eq!(rt; admitted(case.admit(entry(0, 2, 64, 9))), Err(want));
-    assert_eq!(rt; admitted(case.admit(entry(0, 9, 64, 9))), Err(want));
-    assert_eq!(rt; decided(case.seal()), Err(want));
+    assert_eq!(rt; told(case.admit(entry(0, 2, 64, 9))), Err(want));
+    assert_eq!(rt; told(case.admit(entry(0, 9, 64, 9))), Err(want));
+    assert_eq!(rt; told(case.seal()), Err(want));
     assert_eq!(rt; case.records().len(), records);
 }
 
@@ -20,7 +20,7 @@ fn a_sealed_case_refuses_with_four_and_a_decided_one_with_three(
     let mut case = ScCase::new(rt.alloc(), SC)?;
     assert_eq!(rt; verdict_number(case.stage().verdict()), 0);
     // an empty case
-    assert_eq!(rt; decided(case.seal()), Ok((1, None)));
+    assert_eq!(rt; told(case.seal()), Ok(Some(Verdict::Order)));
     is_closed(&rt, &mut case, 3, 0);
     assert_eq!(rt; verdict_number(case.stage().verdict()), 1);
     // an orphan
@@ -30,13 +30,13 @@ fn a_sealed_case_refuses_with_four_and_a_decided_one_with_three(
         &mut case,
         &[((0, 2, 16, 1, 0, 5), Ok(1)), ((0, 1, 16, 7, 10, 20), Ok(2))],
     );
-    assert_eq!(rt; decided(case.seal()), Ok((3, Some(2))));
+    assert_eq!(rt; told(case.seal()), Ok(Some(Verdict::Orphan(2))));
     is_closed(&rt, &mut case, 3, 2);
     assert_eq!(rt; verdict_number(case.stage().verdict()), 3);
     // neither
     assert_eq!(rt; told(case.open(1)), Ok(()));
-    assert_eq!(rt; admitted(case.admit(entry(0, 2, 16, 1))), Ok(1));
-    assert_eq!(rt; decided(case.seal()), Ok((0, None)));
+    assert_eq!(rt; told(case.admit(entry(0, 2, 16, 1))), Ok(1));
+    assert_eq!(rt; told(case.seal()), Ok(None));
     is_closed(&rt, &mut case, 4, 1);
     assert_eq!(rt; verdict_number(case.stage().verdict()), 0);
     Ok(())
@@ -66,16 +66,16 @@ fn sealing_tells_the_smallest_orphan_and_no_load_of_a_store_or_of_zero(
     let mut case = ScCase::new(rt.alloc(), SC)?;
     assert_eq!(rt; told(case.open(2)), Ok(()));
     admit_rows(&rt, &mut case, &READ);
-    assert_eq!(rt; decided(case.seal()), Ok((0, None)));
+    assert_eq!(rt; told(case.seal()), Ok(None));
     assert_eq!(rt; told(case.open(2)), Ok(()));
     admit_rows(&rt, &mut case, &READ);
     admit_rows(&rt, &mut case, &UNREAD);
-    assert_eq!(rt; decided(case.seal()), Ok((3, Some(8))));
+    assert_eq!(rt; told(case.seal()), Ok(Some(Verdict::Orphan(8))));
     // without its store the first load is one
     assert_eq!(rt; told(case.open(2)), Ok(()));
-    assert_eq!(rt; admitted(case.admit(entry(0, 1, 16, 5))), Ok(1));
-    assert_eq!(rt; admitted(case.admit(entry(1, 2, 16, 6))), Ok(2));
-    assert_eq!(rt; admitted(case.admit(entry(1, 1, 32, 6))), Ok(3));
-    assert_eq!(rt; decided(case.seal()), Ok((3, Some(1))));
+    assert_eq!(rt; told(case.admit(entry(0, 1, 16, 5))), Ok(1));
+    assert_eq!(rt; told(case.admit(entry(1, 2, 16, 6))), Ok(2));
+    assert_eq!(rt; told(case.admit(entry(1, 1, 32, 6))), Ok(3));
+    assert_eq!(rt; told(case.seal()), Ok(Some(Verdict::Orphan(1))));
     Ok(())
 }

@@ -5,7 +5,6 @@ use memory::models::Sc;
 use memory::records::Entry;
 use memory::refusals::Fault;
 use memory::settings::Setting;
-use memory::verdicts::{Verdict, verdict_number};
 use std::process::Abort;
 
 pub type ScCase = Case<Sc, GlobalClock>;
@@ -19,10 +18,7 @@ pub const SC: Setting<Sc, GlobalClock> = Setting {
 pub type Refused = (u8, u8, usize);
 
 // What admission answers: the number of the record, or the refusal.
-pub type Admitted = Result<usize, Refused>;
-
-// A verdict's number, and the record that it names.
-pub type Decided = (u8, Option<u8>);
+pub type Admitted = Result<u8, Refused>;
 
 // Processor, kind, address, value, enter and commit, then what admission answers. A table of entries would name every field in every row.
 pub type Row = ((u8, u8, u32, u64, u64, u64), Admitted);
@@ -53,20 +49,6 @@ pub fn told<T: Drop, E: Into<Fault> + Drop>(r: Result<T, E>) -> Result<T, Refuse
     })
 }
 
-pub fn admitted(r: Result<u8, Fault>) -> Admitted {
-    told(r).map(usize::from)
-}
-
-pub fn decided<E: Into<Fault> + Drop>(r: Result<Option<Verdict>, E>) -> Result<Decided, Refused> {
-    told(r).map(|verdict| {
-        let named = match verdict {
-            Some(Verdict::Orphan(load)) => Some(load),
-            _ => None,
-        };
-        (verdict_number(verdict), named)
-    })
-}
-
 // An entry with readings 10 and 90.
 pub fn entry(processor: u8, kind: u8, address: u32, value: u64) -> Entry {
     Entry {
@@ -91,6 +73,6 @@ pub fn admit_rows(rt: &impl Abort, case: &mut ScCase, rows: &[Row]) {
             enter,
             commit,
         };
-        assert_eq!(rt; admitted(case.admit(e)), want, "row {i}");
+        assert_eq!(rt; told(case.admit(e)), want, "row {i}");
     }
 }

@@ -1,9 +1,10 @@
 // The bytes that a case writes, and what it refuses to write.
-use crate::tools::{EMPTY, MESSAGE, ORPHAN, Row, SC, ScCase, admit_rows, decided, told};
+use crate::tools::{EMPTY, MESSAGE, ORPHAN, Row, SC, ScCase, admit_rows, told};
 use case::cases::Case;
 use memory::clocks::NoClock;
 use memory::models::Godson;
 use memory::settings::Setting;
+use memory::verdicts::Verdict;
 use std::process::Abort;
 use std::test::Fail;
 
@@ -16,9 +17,7 @@ const GODSON_NO_CLOCK: Setting<Godson, NoClock> = Setting {
 pub const OLD: u8 = 0xaa;
 
 pub fn is_old(rt: &impl Abort, bytes: &[u8]) {
-    for b in bytes {
-        assert_eq!(rt; *b, OLD);
-    }
+    assert!(rt; bytes.iter().all(|b| *b == OLD), "{bytes:?}");
 }
 
 const ORPHANED: [Row; 2] = [((0, 2, 16, 1, 0, 5), Ok(1)), ((0, 1, 16, 7, 10, 20), Ok(2))];
@@ -34,7 +33,7 @@ fn run_slip_and_paper_are_these_bytes_and_the_rest_is_kept(rt: HostRuntime) -> R
     let mut out = [OLD; 20];
     assert_eq!(rt; told(case.write_slip(&mut out)), Ok(12));
     assert_eq!(rt; &out[0..12], &[0x1d, 0, 9, 0, 0, 0, 0, 0, 0, 0, 0, 0][..]);
-    assert_eq!(rt; decided(case.seal()), Ok((3, Some(2))));
+    assert_eq!(rt; told(case.seal()), Ok(Some(Verdict::Orphan(2))));
     assert_eq!(rt; told(case.write_slip(&mut out)), Ok(12));
     assert_eq!(rt; &out[0..12], &[0x1d, 0, 9, 3, 0, 0, 0, 0, 0, 0, 0, 0][..]);
     is_old(&rt, &out[12..20]);
@@ -50,7 +49,7 @@ fn run_slip_and_paper_are_these_bytes_and_the_rest_is_kept(rt: HostRuntime) -> R
 #[test]
 fn one_byte_too_few_is_refused_and_nothing_is_written(rt: HostRuntime) -> Result<(), Fail> {
     let mut case = ScCase::new(rt.alloc(), SC)?;
-    assert_eq!(rt; decided(case.load(&ORPHAN)), Ok((3, Some(2))));
+    assert_eq!(rt; told(case.load(&ORPHAN)), Ok(Some(Verdict::Orphan(2))));
     let mut run = [OLD; 74];
     assert_eq!(rt; told(case.write_run(&mut run)), Err((15, 2, 3)));
     is_old(&rt, &run);
@@ -75,7 +74,7 @@ fn an_undecided_case_has_no_paper(rt: HostRuntime) -> Result<(), Fail> {
     let mut out = [OLD; 40];
     assert_eq!(rt; told(case.write_paper(&mut out)), Err((14, 2, 1)));
     assert_eq!(rt; told(case.write_paper(&mut [])), Err((14, 2, 1)));
-    assert_eq!(rt; decided(case.load(&MESSAGE)), Ok((0, None)));
+    assert_eq!(rt; told(case.load(&MESSAGE)), Ok(None));
     assert_eq!(rt; told(case.write_paper(&mut out)), Err((14, 2, 5)));
     assert_eq!(rt; told(case.write_paper(&mut [])), Err((14, 2, 5)));
     is_old(&rt, &out);
@@ -149,16 +148,16 @@ fn what_a_refused_loading_leaves_is_written(rt: HostRuntime) -> Result<(), Fail>
     let mut case = ScCase::new(rt.alloc(), SC)?;
     let mut out = [OLD; 75];
     let mut bytes = MESSAGE;
-    assert_eq!(rt; decided(case.load(&ORPHAN)), Ok((3, Some(2))));
+    assert_eq!(rt; told(case.load(&ORPHAN)), Ok(Some(Verdict::Orphan(2))));
     // a head: the case as it was
     bytes[3] = 17;
-    assert_eq!(rt; decided(case.load(&bytes)), Err((7, 2, 0)));
+    assert_eq!(rt; told(case.load(&bytes)), Err((7, 2, 0)));
     assert_eq!(rt; told(case.write_run(&mut out)), Ok(75));
     assert_eq!(rt; &out[..], &ORPHAN[..]);
     // the third record: the two before it
     bytes[3] = 2;
     bytes[75] = 2;
-    assert_eq!(rt; decided(case.load(&bytes)), Err((7, 2, 72)));
+    assert_eq!(rt; told(case.load(&bytes)), Err((7, 2, 72)));
     assert_eq!(rt; told(case.write_run(&mut out)), Ok(75));
     assert_eq!(rt; &out[0..72], &MESSAGE[0..72]);
     assert_eq!(rt; &out[72..75], &MESSAGE[138..141]);
@@ -173,20 +172,20 @@ fn a_case_writes_and_takes_only_the_marks_of_its_model_and_clock(
     let mut out = [OLD; 20];
     assert_eq!(rt; told(case.write_run(&mut out)), Ok(9));
     assert_eq!(rt; &out[0..9], &[1, 0, 3, 1, 3, 3, 3, 0, 0][..]);
-    assert_eq!(rt; decided(case.load(&out[0..9])), Ok((1, None)));
-    assert_eq!(rt; decided(case.load(&EMPTY)), Err((2, 2, 0)));
+    assert_eq!(rt; told(case.load(&out[0..9])), Ok(Some(Verdict::Order)));
+    assert_eq!(rt; told(case.load(&EMPTY)), Err((2, 2, 0)));
     assert_eq!(rt;
-        decided(case.load(&[1, 0, 3, 2, 3, 1, 3, 0, 0])),
+        told(case.load(&[1, 0, 3, 2, 3, 1, 3, 0, 0])),
         Err((2, 2, 0))
     );
     assert_eq!(rt;
-        decided(case.load(&[1, 0, 3, 2, 1, 3, 3, 0, 0])),
+        told(case.load(&[1, 0, 3, 2, 1, 3, 3, 0, 0])),
         Err((2, 2, 0))
     );
     assert_eq!(rt; case.processors(), 1);
     assert_eq!(rt;
-        decided(case.load(&[1, 0, 3, 2, 3, 3, 3, 0, 0])),
-        Ok((1, None))
+        told(case.load(&[1, 0, 3, 2, 3, 3, 3, 0, 0])),
+        Ok(Some(Verdict::Order))
     );
     assert_eq!(rt; case.processors(), 2);
     Ok(())
@@ -196,7 +195,7 @@ fn a_case_writes_and_takes_only_the_marks_of_its_model_and_clock(
 #[test]
 fn the_paper_of_an_empty_run_is_an_empty_order(rt: HostRuntime) -> Result<(), Fail> {
     let mut case = ScCase::new(rt.alloc(), SC)?;
-    assert_eq!(rt; decided(case.load(&EMPTY)), Ok((1, None)));
+    assert_eq!(rt; told(case.load(&EMPTY)), Ok(Some(Verdict::Order)));
     assert_eq!(rt; told(case.write_paper(&mut [OLD; 12])), Err((15, 2, 1)));
     let mut out = [OLD; 16];
     assert_eq!(rt; told(case.write_paper(&mut out)), Ok(13));
@@ -206,7 +205,7 @@ fn the_paper_of_an_empty_run_is_an_empty_order(rt: HostRuntime) -> Result<(), Fa
     );
     is_old(&rt, &out[13..16]);
     let mut case = Case::new(rt.alloc(), GODSON_NO_CLOCK)?;
-    assert_eq!(rt; decided(case.seal()), Ok((1, None)));
+    assert_eq!(rt; told(case.seal()), Ok(Some(Verdict::Order)));
     assert_eq!(rt; told(case.write_paper(&mut out)), Ok(13));
     assert_eq!(rt;
         &out[0..13],

@@ -32,7 +32,7 @@ entry_whole c a v e x long ha hv he hx =
     let first : digits 4 a ++ (digits 8 v ++ (digits 8 e ++ digits 8 x)) ≡ drop 2 c = (λ i. ha i ++ second i) ∙ sym (part_on c 2 4) in
     ap (λ xs. get_or c 0 0 ∷ get_or c 1 0 ∷ xs) first ∙ sym (ap (λ xs. get_or c 0 0 ∷ xs) (drop_more c 1 0 (omega arith))) ∙ sym (drop_more c 0 0 (omega arith))
 
--- the bytes of a number of 16, 32 and 64 bits, as the library writes them
+-- the bytes of a number of 32 and 64 bits, as the library writes them
 pub digits_4 : (n : ℕ) → digits 4 n ≡ (n / 16777216 % 256) ∷ (n / 65536 % 256) ∷ (n / 256 % 256) ∷ (n % 256) ∷ []
 digits_4 n = simp div-div-eq-div-mul
 

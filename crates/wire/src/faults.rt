@@ -6,7 +6,7 @@ ghost use Rattle.wire.specs.declared.faults.RunFault.TheVariants.{Bytes};
 use memory::refusals::{Fault, Layer, Refusal};
 
 // No field of the text stands at this place.
-#[derive(Clone, Copy)]
+#[derive(Clone, Copy, Debug, PartialEq, Eq)]
 pub struct ByteFault {
     pub place: usize,
 }

@@ -14,13 +14,13 @@ pub enum Text {
 }
 
 // The part of the bytes that a field's content fills, with the place of the field's tag.
-#[derive(Clone, Copy)]
+#[derive(Clone, Copy, Debug, PartialEq, Eq)]
 pub struct Part<'a> {
     pub place: usize,
     pub content: &'a [u8],
 }
 
-#[derive(Clone, Copy)]
+#[derive(Clone, Copy, Debug, PartialEq, Eq)]
 pub enum Field<'a> {
     Head(Part<'a>),
     Record(Part<'a>),

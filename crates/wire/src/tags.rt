@@ -3,6 +3,8 @@ ghost use Rattle.std.specs.Prelude.{◌≡◌};
 ghost use Rattle.std.specs.Result.{result_ok};
 ghost use Rattle.wire.specs.Tags.{tag_number, tag_at};
 
+use memory::numbers::UnknownNumber;
+
 #[derive(Clone, Copy, Debug, PartialEq, Eq)]
 pub enum Tag {
     RunHead = 0x01,
@@ -17,10 +19,6 @@ pub enum Tag {
     PaperEnd = 0x1f,
 }
 
-// A number that no tag has.
-#[derive(Clone, Copy, Debug, PartialEq, Eq)]
-pub struct UnknownTag;
-
 impl From<Tag> for u8 {
     ghost from_gives = { λ tag r. r ≡ tag_number tag };
 
@@ -30,11 +28,11 @@ impl From<Tag> for u8 {
 }
 
 impl TryFrom<u8> for Tag {
-    type Error = UnknownTag;
+    type Error = UnknownNumber;
 
     ghost try_from_gives = { λ number r. result_ok r ≡ tag_at number };
 
-    fn try_from(number: u8) -> Result<Tag, UnknownTag> {
+    fn try_from(number: u8) -> Result<Tag, UnknownNumber> {
         match number {
             0x01 => Ok(Tag::RunHead),
             0x02 => Ok(Tag::Record),
@@ -46,7 +44,7 @@ impl TryFrom<u8> for Tag {
             0x1d => Ok(Tag::Slip),
             0x1e => Ok(Tag::Notice),
             0x1f => Ok(Tag::PaperEnd),
-            _ => Err(UnknownTag),
+            _ => Err(UnknownNumber),
         }
     }
 }

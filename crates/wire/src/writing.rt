@@ -19,7 +19,7 @@ use memory::verdicts::{Verdict, verdict_number};
 use pen::{Encode, Pen};
 
 // The lent bytes are too few.
-#[derive(Clone, Copy)]
+#[derive(Clone, Copy, Debug, PartialEq, Eq)]
 pub struct TooShort;
 
 // What a verdict rests on: an order of the records, lines that oppose each other, or a load that reads no store of the run.
@@ -30,7 +30,7 @@ pub enum Paper<'a> {
     Orphan(u8),
 }
 
-// The marks of a model and a clock, and the number of records.
+// The marks of a model and a clock and the number of records, byte by byte as the format has them.
 #[derive(Clone, Copy)]
 pub struct PaperHead {
     pub model: u8,
@@ -184,7 +184,7 @@ impl From<Paper<'_>> for Verdict {
 }
 
 impl Paper<'_> {
-    // Counted before anything is written, since nothing is where the bytes are too few.
+    // Counted before anything is written, since nothing is written where the bytes are too few.
     #[tactic(auto, using(crate::proofs::InOrder::lines_long))]
     fn body_len(self) -> usize
         ensures length { result ≡ length (paper_body self.entry) }

@@ -14,7 +14,7 @@ and its paper, if there is one, or a notice of the refusal, to standard output.
 docs/FORMAT.md has the bytes; the program explain says the same in words.
 Exit status: 0 where a slip was written, 1 where a notice was, or where something failed.";
 
-// Writes the answer; a notice is an error, so that the exit status tells of it.
+// Writes the answer; a notice, which its first byte tells, is an error, so that the exit status tells of it.
 fn answer_input(rt: &HostRuntime) -> anyhow::Result<()> {
     let input = read_input(rt)?;
     let output = answer(rt.alloc(), &input)?;

@@ -1,7 +1,7 @@
 // Listing lines.
 ghost use Rattle.std.specs.Prelude.{◌≡◌, [], IfOk};
 ghost use Rattle.memory.specs.Runs.{run_of};
-ghost use Rattle.memory.specs.Settings.{setting_of};
+ghost use Rattle.memory.specs.Settings.{setting_lent};
 ghost use Rattle.inference.specs.Listing.{list_lines, Lists, Out};
 ghost use Rattle.inference.specs.Next.{next as next_of};
 ghost use Rattle.inference.specs.Views.{lines_of, Took, listing as listing_of, Infers, run_is};
@@ -53,20 +53,17 @@ impl Lines {
         ensures { listing_of result (lines_of self.new) ≡ list_lines (run_is run.now) k (lines_of self.old) }
     {
         for count in 0..k {
-            match self.list_next(run) {
-                Some(false) => {}
-                Some(true) => {
-                    return Listed {
-                        count: count + 1,
-                        opposed: true,
-                    };
-                }
-                None => {
-                    return Listed {
-                        count,
-                        opposed: false,
-                    };
-                }
+            let Some(opposed) = self.list_next(run) else {
+                return Listed {
+                    count,
+                    opposed: false,
+                };
+            };
+            if opposed {
+                return Listed {
+                    count: count + 1,
+                    opposed: true,
+                };
             }
         }
         Listed {
@@ -78,13 +75,13 @@ impl Lines {
     // Lists next lines until k are listed, none follows, or one is opposed to a listed one. Refused where there are more records than a run may have.
     pub fn infer<M: Model, C: Clock>(
         &mut self,
-        setting: &Setting<M, C>,
+        setting: Setting<&M, &C>,
         records: &[Record],
         k: u64,
     ) -> Result<Listed, Refusal>
-        ensures value { Infers (run_of (setting_of M.Model C.Clock setting.now) records.now) k (lines_of self.old) (lines_of self.new) result }
-        ensures lists { IfOk result (λ l. Lists (run_of (setting_of M.Model C.Clock setting.now) records.now) k (lines_of self.old) (listing_of l (lines_of self.new))) }
-        ensures out { IfOk result (λ l. Out (run_of (setting_of M.Model C.Clock setting.now) records.now) k (listing_of l (lines_of self.new))) }
+        ensures value { Infers (run_of (setting_lent M.Model C.Clock setting.entry) records.now) k (lines_of self.old) (lines_of self.new) result }
+        ensures lists { IfOk result (λ l. Lists (run_of (setting_lent M.Model C.Clock setting.entry) records.now) k (lines_of self.old) (listing_of l (lines_of self.new))) }
+        ensures out { IfOk result (λ l. Out (run_of (setting_lent M.Model C.Clock setting.entry) records.now) k (listing_of l (lines_of self.new))) }
     {
         let run = Run::new(setting, records)?;
         Ok(self.list_up_to(&run, k))

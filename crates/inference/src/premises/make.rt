@@ -16,7 +16,7 @@ use memory::settings::Setting;
 impl<'a, M: Model, C: Clock> Premises<'a, M, C> {
     // Refused where there are more records than a run may have.
     pub fn new(
-        setting: &'a Setting<M, C>,
+        setting: Setting<&'a M, &'a C>,
         records: &'a [Record],
         lines: &'a [Line],
     ) -> Result<Premises<'a, M, C>, Refusal>
@@ -33,7 +33,7 @@ impl<'a, M: Model, C: Clock> Premises<'a, M, C> {
         ensures run { run_in result ≡ run_is run.now }
         ensures lines { lines_in result ≡ lines.now }
     {
-        let setting: &'a Setting<M, C> = run.setting;
+        let setting: Setting<&'a M, &'a C> = run.setting;
         let records: &'a [Record] = run.records;
         let run = Run { setting, records };
         Premises { run, lines }

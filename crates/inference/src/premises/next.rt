@@ -33,6 +33,7 @@ impl<M: Model, C: Clock> Premises<'_, M, C> {
     }
 
     // No third is looked for where the pair is listed.
+    #[tactic(auto, using(crate::proofs::Thirds::only_zero, crate::proofs::Thirds::only_records))]
     fn least_of_pair(&self, rule: Rule, first: u8, second: u8) -> Option<Line>
         ensures { result ≡ least_of_pair (run_in self.now) (lines_in self.now) rule first second }
     {

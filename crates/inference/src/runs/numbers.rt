@@ -10,14 +10,14 @@ use crate::runs::Run;
 use memory::clocks::Clock;
 use memory::limits::MOST_RECORDS;
 use memory::models::Model;
-use memory::records::Record;
+use memory::records::{Record, record_at};
 use memory::refusals::Refusal;
 use memory::settings::Setting;
 
 impl<'a, M: Model, C: Clock> Run<'a, M, C> {
     // Refused where there are more records than a run may have.
     pub(crate) fn new(
-        setting: &'a Setting<M, C>,
+        setting: Setting<&'a M, &'a C>,
         records: &'a [Record],
     ) -> Result<Run<'a, M, C>, Refusal>
         ensures { MatchResult result
@@ -40,8 +40,6 @@ impl<'a, M: Model, C: Clock> Run<'a, M, C> {
     pub(crate) fn record(&self, number: u8) -> Option<Record>
         ensures { MatchOption result (known (run_is self.now) number ≡ false) (λ r. (known (run_is self.now) number ≡ true) × (r ≡ at self.now.records.now number)) }
     {
-        self.records
-            .get(usize::from(number).checked_sub(1)?)
-            .copied()
+        record_at(self.records, number)
     }
 }

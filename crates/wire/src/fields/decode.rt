@@ -1,5 +1,5 @@
 // What the content of a field says.
-ghost use Rattle.std.specs.Prelude.{◌≡◌, ℕ, cond, ◌==◌, [], ◌∷◌, List, length, Some, None, IfOk, IfSome};
+ghost use Rattle.std.specs.Prelude.{◌≡◌, ℕ, cond, ◌==◌, List, length, Some, None, IfOk, IfSome};
 ghost use Rattle.wire.specs.Bytes.{entry_bytes, entry_in};
 ghost use Rattle.wire.specs.Fields.{content_of, run_head_in, run_head_content};
 

@@ -1,5 +1,5 @@
 // A pen over lent bytes.
-ghost use Rattle.std.specs.Prelude.{◌≡◌, ◌+◌, ◌≤◌, ℕ, List, ◌∷◌, length};
+ghost use Rattle.std.specs.Prelude.{◌≡◌, ◌+◌, ℕ, List, ◌∷◌, length};
 ghost use Rattle.wire.specs.Bytes.{digits, field};
 ghost use Rattle.wire.specs.Tags.{tag_number};
 ghost use Rattle.wire.specs.Pens.{HasRoom, Put};
@@ -7,7 +7,7 @@ ghost use Rattle.wire.specs.declared.tags.Tag.{Tag};
 
 use crate::tags::Tag;
 
-// Lent bytes that are written up to a place.
+// Lent bytes that are written up to a place. std's `Cursor` would answer each writing with a `Result`, and a pen cannot fail.
 #[derive(Drop)]
 pub(crate) struct Pen<'a> {
     out: &'a mut [u8],
@@ -34,6 +34,7 @@ pub(crate) trait Encode: Copy {
 }
 
 impl<'a> Pen<'a> {
+    // here, since these words name the trait above
     ghost use Rattle.wire.specs.Encoded.{encoded, all_encoded};
 
     pub(crate) fn over(out: &'a mut [u8]) -> Pen<'a>

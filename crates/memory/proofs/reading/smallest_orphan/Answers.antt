@@ -1,6 +1,6 @@
 use Rattle.std.proofs.Common.{rules, length}
 use Rattle.memory.specs.Reading.{orphan, Least}
-use Rattle.memory.proofs.Loops.{least_once, picked}
+use Rattle.memory.proofs.Least.{least_once, picked}
 use Rattle.memory.proofs.reading.smallest_orphan.Goals as goal
 
 -- what is found is the least, and so is what `pick` gives

@@ -1,14 +1,7 @@
--- The first element or number that passes. Assumes nothing.
-use Rattle.std.proofs.Common.{◌≡◌, ℕ, zero, suc, ◌<◌, Bool, true, false, cond, List, [], ◌∷◌, Some, None, Option, length, get_or, refl, ap, ◌∙◌, ⊎_elim, arith}
-use Rattle.std.proofs.lemmas.Bool.{or_parts, cases_eq, cases_lt, both_ways}
-use Rattle.std.specs.List.{list_any}
+-- The least number that passes. Assumes nothing.
+use Rattle.std.proofs.Common.{◌≡◌, ℕ, zero, suc, Bool, true, false, cond, Some, None, Option, refl, ap, ◌∙◌, ⊎_elim, arith}
+use Rattle.std.proofs.lemmas.Bool.{cases_eq, cases_lt, both_ways}
 use Rattle.memory.specs.Reading.{first_of, pick, numbered, Least}
-
--- none passes where none of the list does
-pub none_at : {X : Type 0} (p : X → Bool) (xs : List X) (k : ℕ) (d : X) → list_any p xs ≡ false → k < length xs → p (get_or xs k d) ≡ false
-none_at p [] k d e lt = absurd (omega arith)
-none_at p (x ∷ xs) zero d e lt = (or_parts (p x) (list_any p xs) e).0
-none_at p (x ∷ xs) (suc k) d e lt = none_at p xs k d (or_parts (p x) (list_any p xs) e).1 (omega arith)
 
 -- what `pick` gives is the least
 abbrev Picked : (ℕ → Bool) → ℕ → ℕ → Type 0
