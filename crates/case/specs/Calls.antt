@@ -11,7 +11,7 @@ use Rattle.memory.specs.Admission.{opens, judgement}
 use Rattle.memory.specs.Legal.{Claims}
 use Rattle.memory.specs.Numbers.{verdict_number}
 use Rattle.memory.specs.Reading.{first_orphan}
-use Rattle.memory.specs.Runs.{Run}
+use Rattle.memory.specs.Runs.{Run, Setting, run_of}
 use Rattle.wire.specs.Bytes.{run_bytes, slip_bytes, paper_bytes, order_body, orphan_body}
 use Rattle.case.specs.declared.stages.Call.TheVariants.{Admit, Seal}
 use Rattle.case.specs.declared.stages.Stage.{Stage}
@@ -78,6 +78,10 @@ sealing s = seal_if (permits s.stage Seal) s
 abbrev pub AnswerClaims : {E : Type 0} → Run → Result (Option Verdict) E → Type 0
 AnswerClaims R (Ok v) = Claims R [] v
 AnswerClaims R (Err e) = Unit {0}
+
+-- the answer claims nothing false of the records, whatever the setting
+abbrev pub AlwaysClaims : {E : Type 0} → List Record → Result (Option Verdict) E → Type 0
+AlwaysClaims rs r = (S : Setting) → AnswerClaims (run_of S rs) r
 
 -- Writing a run, a slip and a paper, under the marks of a model and a clock.
 abbrev pub run_in : ℕ → ℕ → State → List ℕ

@@ -2,6 +2,7 @@
 ghost use Rattle.std.specs.Prelude.{◌≡◌, ◌≤◌, true, [], vec_len, vec_capacity};
 ghost use Rattle.memory.specs.Admission.{opens, admits, sized};
 ghost use Rattle.memory.specs.Limits.{most_records};
+ghost use Rattle.case.specs.State.{State};
 
 use crate::stages::Stage;
 use memory::clocks::Clock;
@@ -14,10 +15,9 @@ mod load;
 mod look;
 mod write;
 
-// A case under a model and a clock. Its room for records is reserved when it is made, so that no call on it allocates.
+// What a case holds besides its setting. Its room for records is reserved when it is made, so that no call on it allocates.
 #[derive(Drop)]
-pub struct Case<M: Model, C: Clock> {
-    setting: Setting<M, C>,
+struct Held {
     processors: u8,
     records: Vec<Record>,
     stage: Stage,
@@ -27,4 +27,17 @@ pub struct Case<M: Model, C: Clock> {
     ghost opened: { opens processors ≡ true },
     ghost lawful: { admits processors [] records.items ≡ true },
     ghost sized: { sized records.items ≡ true },
+}
+
+impl std::marker::Model for Held {
+    ghost Value = { State };
+
+    ghost view = { λ h. record { processors = h.processors; records = h.records.items; stage = h.stage; total = h.steps } };
+}
+
+// A case under a model and a clock.
+#[derive(Drop)]
+pub struct Case<M: Model, C: Clock> {
+    setting: Setting<M, C>,
+    held: Held,
 }

@@ -4,10 +4,10 @@ ghost use Rattle.memory.specs.Admission.{judgement};
 ghost use Rattle.memory.specs.Runs.{run_of};
 ghost use Rattle.memory.specs.Settings.{setting_of};
 ghost use Rattle.case.specs.State.{opened as begun, case_fault};
-ghost use Rattle.case.specs.Calls.{opening, admitting, admit_by, numbered_by, sealing, sealed_verdict, sealed, AnswerClaims};
+ghost use Rattle.case.specs.Calls.{opening, admitting, admit_by, numbered_by, sealing, sealed_verdict, sealed, AnswerClaims, AlwaysClaims};
 ghost use Rattle.case.specs.Views.{view};
 
-use crate::cases::Case;
+use crate::cases::{Case, Held};
 use crate::stages::{Call, Stage};
 use memory::admission::judge;
 use memory::clocks::Clock;
@@ -20,27 +20,10 @@ use memory::settings::Setting;
 use memory::verdicts::Verdict;
 use std::alloc::{AllocError, Global};
 
-impl<M: Model, C: Clock> Case<M, C> {
-    // An open case of one processor; only this call can fail for want of memory.
-    pub fn new(heap: Global, setting: Setting<M, C>) -> Result<Case<M, C>, AllocError>
-    where
-        M: Drop,
-        C: Drop,
-        ensures { IfOk result (λ c. (view c ≡ begun 1) × (c.setting ≡ setting)) }
-    {
-        let records = Vec::with_capacity(heap, MOST_RECORDS)?;
-        Ok(Case {
-            setting,
-            processors: 1,
-            records,
-            stage: Stage::Open,
-            steps: 0,
-        })
-    }
-
+impl Held {
     // A refused call has as its place the number of records plus 1.
     pub(super) fn fault(&self, refusal: Refusal) -> Fault
-        ensures { result ≡ case_fault (view self.now) refusal }
+        ensures { result ≡ case_fault self.now refusal }
     {
         Fault {
             refusal,
@@ -49,13 +32,11 @@ impl<M: Model, C: Clock> Case<M, C> {
         }
     }
 
-    // The case begins anew, whatever its stage.
-    pub fn open(&mut self, processors: u8) -> Result<(), Fault>
-        ensures answer { result ≡ (opening (view self.old) processors).answer }
-        ensures state { view self.new ≡ (opening (view self.old) processors).state }
-        ensures setting { self.new.setting ≡ self.old.setting }
+    pub(super) fn open(&mut self, processors: u8) -> Result<(), Fault>
+        ensures answer { result ≡ (opening self.old processors).answer }
+        ensures state { self.new ≡ (opening self.old processors).state }
     {
-        if processors < 1 || processors > MOST_PROCESSORS {
+        if !(1..=MOST_PROCESSORS).contains(&processors) {
             return Err(self.fault(Refusal::Stranger));
         }
         self.records.clear();
@@ -67,20 +48,17 @@ impl<M: Model, C: Clock> Case<M, C> {
 
     // One record more, if it is lawful.
     pub(super) fn admit_lawful(&mut self, e: Entry) -> Result<u8, Refusal>
-        ensures answer { result ≡ numbered_by (judgement self.old.processors self.old.records.items e) (view self.old) }
-        ensures state { view self.new ≡ (admit_by (judgement self.old.processors self.old.records.items e) (view self.old)).state }
-        ensures setting { self.new.setting ≡ self.old.setting }
+        ensures answer { result ≡ numbered_by (judgement self.old.processors self.old.records e) self.old }
+        ensures state { self.new ≡ (admit_by (judgement self.old.processors self.old.records e) self.old).state }
     {
         let record = judge(self.processors, &self.records, e)?;
         self.records.push_reserved(record);
         Ok(self.records.len() as u8)
     }
 
-    // Answers the number of the record.
-    pub fn admit(&mut self, e: Entry) -> Result<u8, Fault>
-        ensures answer { result ≡ (admitting (view self.old) e).answer }
-        ensures state { view self.new ≡ (admitting (view self.old) e).state }
-        ensures setting { self.new.setting ≡ self.old.setting }
+    fn admit(&mut self, e: Entry) -> Result<u8, Fault>
+        ensures answer { result ≡ (admitting self.old e).answer }
+        ensures state { self.new ≡ (admitting self.old e).state }
     {
         self.stage
             .permits(Call::Admit)
@@ -90,7 +68,7 @@ impl<M: Model, C: Clock> Case<M, C> {
 
     // The verdict of the records as they are.
     fn verdict_sealed(&self) -> Option<Verdict>
-        ensures { result ≡ sealed_verdict self.now.records.items }
+        ensures { result ≡ sealed_verdict self.now.records }
     {
         if self.records.is_empty() {
             return Some(Verdict::Order);
@@ -99,13 +77,59 @@ impl<M: Model, C: Clock> Case<M, C> {
     }
 
     pub(super) fn close(&mut self) -> Option<Verdict>
-        ensures answer { result ≡ sealed_verdict self.old.records.items }
-        ensures state { view self.new ≡ sealed (view self.old) }
-        ensures setting { self.new.setting ≡ self.old.setting }
+        ensures answer { result ≡ sealed_verdict self.old.records }
+        ensures state { self.new ≡ sealed self.old }
     {
         let verdict = self.verdict_sealed();
         self.stage = verdict.map_or(Stage::Sealed, Stage::Decided);
         verdict
+    }
+
+    fn seal(&mut self) -> Result<Option<Verdict>, Fault>
+        ensures answer { result ≡ (sealing self.old).answer }
+        ensures state { self.new ≡ (sealing self.old).state }
+        ensures claims { AlwaysClaims self.old.records result }
+    {
+        self.stage
+            .permits(Call::Seal)
+            .map_err(|refusal| self.fault(refusal))?;
+        Ok(self.close())
+    }
+}
+
+impl<M: Model, C: Clock> Case<M, C> {
+    // An open case of one processor; only this call can fail for want of memory.
+    pub fn new(heap: Global, setting: Setting<M, C>) -> Result<Case<M, C>, AllocError>
+    where
+        M: Drop,
+        C: Drop,
+        ensures { IfOk result (λ c. (view c ≡ begun 1) × (c.setting ≡ setting)) }
+    {
+        let held = Held {
+            processors: 1,
+            records: Vec::with_capacity(heap, MOST_RECORDS)?,
+            stage: Stage::Open,
+            steps: 0,
+        };
+        Ok(Case { setting, held })
+    }
+
+    // The case begins anew, whatever its stage.
+    pub fn open(&mut self, processors: u8) -> Result<(), Fault>
+        ensures answer { result ≡ (opening (view self.old) processors).answer }
+        ensures state { view self.new ≡ (opening (view self.old) processors).state }
+        ensures setting { self.new.setting ≡ self.old.setting }
+    {
+        self.held.open(processors)
+    }
+
+    // Answers the number of the record.
+    pub fn admit(&mut self, e: Entry) -> Result<u8, Fault>
+        ensures answer { result ≡ (admitting (view self.old) e).answer }
+        ensures state { view self.new ≡ (admitting (view self.old) e).state }
+        ensures setting { self.new.setting ≡ self.old.setting }
+    {
+        self.held.admit(e)
     }
 
     // Ends admission. An empty case has the empty order; an orphan leaves no legal order.
@@ -115,9 +139,6 @@ impl<M: Model, C: Clock> Case<M, C> {
         ensures claims { AnswerClaims (run_of (setting_of M.Model C.Clock self.old.setting) (view self.old).records) result }
         ensures setting { self.new.setting ≡ self.old.setting }
     {
-        self.stage
-            .permits(Call::Seal)
-            .map_err(|refusal| self.fault(refusal))?;
-        Ok(self.close())
+        self.held.seal()
     }
 }

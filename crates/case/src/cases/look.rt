@@ -13,7 +13,7 @@ impl<M: Model, C: Clock> Case<M, C> {
     pub fn processors(&self) -> u8
         ensures { result ≡ (view self.now).processors }
     {
-        self.processors
+        self.held.processors
     }
 
     // The admitted records; they keep the rules of a run, whatever calls came before.
@@ -21,19 +21,20 @@ impl<M: Model, C: Clock> Case<M, C> {
         ensures value { result.now ≡ (view self.now).records }
         ensures lawful { Lawful (view self.now).processors result.now }
     {
-        self.records.as_slice()
+        let held = &self.held;
+        held.records.as_slice()
     }
 
     pub fn stage(&self) -> Stage
         ensures { result ≡ (view self.now).stage }
     {
-        self.stage
+        self.held.stage
     }
 
     // The total of steps since the opening.
     pub fn steps(&self) -> u64
         ensures { result ≡ (view self.now).total }
     {
-        self.steps
+        self.held.steps
     }
 }

@@ -1,5 +1,5 @@
 // Writing run, slip and paper into lent bytes.
-ghost use Rattle.std.specs.Prelude.{◌≡◌, length};
+ghost use Rattle.std.specs.Prelude.{length};
 ghost use Rattle.wire.specs.Bytes.{paper_bytes};
 ghost use Rattle.wire.specs.Written.{paper_number, paper_body};
 ghost use Rattle.case.specs.Calls.{run_in, slip_in, paper_in, Wrote, WroteSome};
@@ -22,41 +22,46 @@ impl<M: Model, C: Clock> Case<M, C> {
         ensures wrote { Wrote (view self.now) (run_in M.Model.MARK C.Clock.MARK (view self.now)) out.old out.new result }
         ensures reloads { (before : State) → Reloads M.Model.MARK C.Clock.MARK before (view self.now) (run_in M.Model.MARK C.Clock.MARK (view self.now)) }
     {
+        let held = &self.held;
         let head = RunHead {
-            processors: self.processors,
+            processors: held.processors,
             model: M::MARK,
             clock: C::MARK,
         };
-        writing::write_run(out, head, &self.records).map_err(|_| self.fault(Refusal::Short))
+        writing::write_run(out, head, &held.records).map_err(|_| held.fault(Refusal::Short))
     }
 
     // The verdict and the total of steps, at any stage.
     pub fn write_slip(&self, out: &mut [u8]) -> Result<usize, Fault>
         ensures { Wrote (view self.now) (slip_in (view self.now)) out.old out.new result }
     {
-        let verdict = self.stage.verdict();
-        writing::write_slip(out, verdict, self.steps).map_err(|_| self.fault(Refusal::Short))
+        let verdict = self.held.stage.verdict();
+        writing::write_slip(out, verdict, self.held.steps).map_err(|_| self
+            .held
+            .fault(Refusal::Short))
     }
 
     fn put_paper(&self, out: &mut [u8], paper: Paper<'_>) -> Result<usize, Fault>
-        ensures { Wrote (view self.now) (paper_bytes (paper_number paper.entry) M.Model.MARK C.Clock.MARK (length self.now.records.items) (paper_body paper.entry)) out.old out.new result }
+        ensures { Wrote (view self.now) (paper_bytes (paper_number paper.entry) M.Model.MARK C.Clock.MARK (length (view self.now).records) (paper_body paper.entry)) out.old out.new result }
     {
         let head = PaperHead {
             model: M::MARK,
             clock: C::MARK,
-            records: self.records.len() as u8,
+            records: self.held.records.len() as u8,
         };
-        writing::write_paper(out, head, paper).map_err(|_| self.fault(Refusal::Short))
+        writing::write_paper(out, head, paper).map_err(|_| self.held.fault(Refusal::Short))
     }
 
     // The paper, where the verdict has one.
     pub fn write_paper(&self, out: &mut [u8]) -> Result<usize, Fault>
         ensures { WroteSome (view self.now) (paper_in M.Model.MARK C.Clock.MARK (view self.now)) out.old out.new result }
     {
-        match self.stage.verdict() {
+        match self.held.stage.verdict() {
             Some(Verdict::Order) => self.put_paper(out, Paper::Order(&[])),
             Some(Verdict::Orphan(load)) => self.put_paper(out, Paper::Orphan(load)),
-            Some(Verdict::Opposed | Verdict::Exhausted) | None => Err(self.fault(Refusal::Bare)),
+            Some(Verdict::Opposed | Verdict::Exhausted) | None => Err(
+                self.held.fault(Refusal::Bare),
+            ),
         }
     }
 }

@@ -1,0 +1,16 @@
+use Rattle.std.proofs.Common.{◌≡◌, List, [], true, Ok, vec_items, rules}
+use Rattle.memory.specs.declared.records.Record.{Record}
+use Rattle.memory.specs.Admission.{judgement, admits, sized as all_sized}
+use Rattle.memory.proofs.Admitted.{admits_more, sized_more}
+use Rattle.case.proofs.cases.Held.admit_lawful.Goals as goal
+
+pub invariant_of-self-inside : goal.invariant_of-self-inside
+invariant_of-self-inside c =
+    let self = c.self.inside in
+    let rs : List Record = vec_items self.records in
+    let r : Record = c.in_ok-record.record in
+    let j : judgement self.processors rs c.args.e ≡ Ok r = rw (← c.deref.ensures.value, ← c.in_ok-record.ensures) in
+    let more : List Record = vec_items c.push_reserved.new.self in
+    let lawful : admits self.processors [] more ≡ true = rw c.push_reserved.ensures.items (admits_more self.processors rs c.args.e r self.lawful j) in
+    let sized : all_sized more ≡ true = rw c.push_reserved.ensures.items (sized_more self.processors rs c.args.e r self.sized j (search rules) (search rules)) in
+    (search rules, (search rules, (self.opened, (lawful, (sized, tt)))))
