@@ -1,5 +1,6 @@
 -- What each call on a case answers, and the case after it, for every case and every argument. Assumes nothing.
 use Rattle.std.specs.Prelude.{◌≡◌, ℕ, ◌+◌, ◌<◌, ◌≤◌, Bool, true, false, List, [], ◌∷◌, ◌++◌, length, drop, Some, None, Ok, Err, Option, Result}
+use Rattle.std.specs.Option.{option_map, option_map_or}
 use Rattle.memory.specs.declared.records.Entry.{Entry}
 use Rattle.memory.specs.declared.records.Record.{Record}
 use Rattle.memory.specs.declared.refusals.Fault.{Fault}
@@ -14,7 +15,6 @@ use Rattle.memory.specs.Reading.{first_orphan}
 use Rattle.memory.specs.Runs.{Run, Setting, run_of}
 use Rattle.wire.specs.Bytes.{run_bytes, slip_bytes, paper_bytes, order_body, orphan_body}
 use Rattle.case.specs.declared.stages.Call.TheVariants.{Admit, Seal}
-use Rattle.case.specs.declared.stages.Stage.{Stage}
 use Rattle.case.specs.declared.stages.Stage.TheVariants.{Sealed, Decided}
 use Rattle.case.specs.State.{State, opened, with_record, with_stage, permits, verdict_at, case_fault}
 
@@ -52,20 +52,12 @@ abbrev pub admitting : State → Entry → Outcome (Result ℕ Fault)
 admitting s e = admit_if (permits s.stage Admit) s e
 
 -- Sealing decides an empty case by its empty order, and one with an orphan by the smallest.
-abbrev pub orphan_verdict : Option ℕ → Option Verdict
-orphan_verdict None = None
-orphan_verdict (Some l) = Some (Orphan l)
-
 abbrev pub sealed_verdict : List Record → Option Verdict
 sealed_verdict [] = Some Order
-sealed_verdict (r ∷ rs) = orphan_verdict (first_orphan (r ∷ rs))
-
-abbrev pub sealed_stage : Option Verdict → Stage
-sealed_stage None = Sealed
-sealed_stage (Some v) = Decided v
+sealed_verdict (r ∷ rs) = option_map Orphan (first_orphan (r ∷ rs))
 
 abbrev pub sealed : State → State
-sealed s = with_stage s (sealed_stage (sealed_verdict s.records))
+sealed s = with_stage s (option_map_or Decided (sealed_verdict s.records) Sealed)
 
 abbrev pub seal_if : Option Refusal → State → Outcome (Result (Option Verdict) Fault)
 seal_if (Some r) s = refused s r

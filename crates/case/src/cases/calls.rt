@@ -1,9 +1,11 @@
 // Making, opening, admitting and sealing.
 ghost use Rattle.std.specs.Prelude.{◌≡◌, IfOk};
+ghost use Rattle.std.specs.Option.{option_map};
+ghost use Rattle.std.specs.Result.{result_err};
 ghost use Rattle.memory.specs.Admission.{judgement};
 ghost use Rattle.memory.specs.Runs.{run_of};
 ghost use Rattle.memory.specs.Settings.{setting_of};
-ghost use Rattle.case.specs.State.{opened as begun, case_fault};
+ghost use Rattle.case.specs.State.{opened as begun, permits, case_fault};
 ghost use Rattle.case.specs.Calls.{opening, admitting, admit_by, numbered_by, sealing, sealed_verdict, sealed, AnswerClaims, AlwaysClaims};
 ghost use Rattle.case.specs.Views.{view};
 
@@ -30,6 +32,15 @@ impl Held {
             layer: Layer::Content,
             place: self.records.len() + 1,
         }
+    }
+
+    // Lets the call through, or says why the stage does not.
+    fn permitted(&self, call: Call) -> Result<(), Fault>
+        ensures { result_err result ≡ option_map (case_fault self.now) (permits self.now.stage call) }
+    {
+        self.stage
+            .permits(call)
+            .map_err(|refusal| self.fault(refusal))
     }
 
     pub(super) fn open(&mut self, processors: u8) -> Result<(), Fault>
@@ -60,9 +71,7 @@ impl Held {
         ensures answer { result ≡ (admitting self.old e).answer }
         ensures state { self.new ≡ (admitting self.old e).state }
     {
-        self.stage
-            .permits(Call::Admit)
-            .map_err(|refusal| self.fault(refusal))?;
+        self.permitted(Call::Admit)?;
         self.admit_lawful(e).map_err(|refusal| self.fault(refusal))
     }
 
@@ -90,9 +99,7 @@ impl Held {
         ensures state { self.new ≡ (sealing self.old).state }
         ensures claims { AlwaysClaims self.old.records result }
     {
-        self.stage
-            .permits(Call::Seal)
-            .map_err(|refusal| self.fault(refusal))?;
+        self.permitted(Call::Seal)?;
         Ok(self.close())
     }
 }

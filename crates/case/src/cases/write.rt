@@ -35,10 +35,9 @@ impl<M: Model, C: Clock> Case<M, C> {
     pub fn write_slip(&self, out: &mut [u8]) -> Result<usize, Fault>
         ensures { Wrote (view self.now) (slip_in (view self.now)) out.old out.new result }
     {
-        let verdict = self.held.stage.verdict();
-        writing::write_slip(out, verdict, self.held.steps).map_err(|_| self
-            .held
-            .fault(Refusal::Short))
+        let held = &self.held;
+        let verdict = held.stage.verdict();
+        writing::write_slip(out, verdict, held.steps).map_err(|_| held.fault(Refusal::Short))
     }
 
     fn put_paper(&self, out: &mut [u8], paper: Paper<'_>) -> Result<usize, Fault>
