@@ -1,3 +1,4 @@
+pub mod Exits
 pub mod Loads
 pub mod Progress
 pub mod Reload

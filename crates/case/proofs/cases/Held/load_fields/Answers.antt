@@ -1,18 +1,16 @@
 use Rattle.std.proofs.Common.{sym, ◌∙◌}
-use Rattle.std.proofs.lemmas.Result.{err_from_is_err_and}
 use Rattle.case.proofs.Progress.{fell_reading, at_fault, at_end, progress_more}
+use Rattle.case.proofs.Exits.{fell_with}
 use Rattle.case.proofs.cases.Held.load_fields.Goals as goal
 
 pub returns-in_err-next-clause-result : goal.returns-in_err-next-clause-result
 returns-in_err-next-clause-result c =
-    let p = err_from_is_err_and c.from_residual.result c.from_residual.ensures.1 in
-    rw (p.1, p.2) (fell_reading c.loop.invariant c.in_err-next.field-0.0 c.in_err-next.ensures.answer)
+    rw (fell_with c.from_residual.ensures.1) (fell_reading c.loop.invariant c.in_err-next.field-0.0 c.in_err-next.ensures.answer)
 
 pub returns-in_err-load_field-clause-result : goal.returns-in_err-load_field-clause-result
 returns-in_err-load_field-clause-result c =
-    let p = err_from_is_err_and c.from_residual-in_err-load_field.result c.from_residual-in_err-load_field.ensures.1 in
     let read = c.in_ok-next.ensures in
-    rw (p.1, p.2) (at_fault c.loop.invariant read.passed read.answer c.load_field.new.self c.in_err-load_field.field-0.0 c.in_err-load_field.ensures.turned)
+    rw (fell_with c.from_residual-in_err-load_field.ensures.1) (at_fault c.loop.invariant read.passed read.answer c.load_field.new.self c.in_err-load_field.field-0.0 c.in_err-load_field.ensures.turned)
 
 pub loop-preserved : goal.loop-preserved
 loop-preserved c =
