@@ -35,7 +35,7 @@ impl std::marker::Model for Held {
     ghost view = { λ h. record { processors = h.processors; records = h.records.items; stage = h.stage; total = h.steps } };
 }
 
-// A case under a model and a clock.
+// A case under a model and a clock. Clauses name both marks of a case: a word over both would take both as well.
 #[derive(Drop)]
 pub struct Case<M: Model, C: Clock> {
     setting: Setting<M, C>,
