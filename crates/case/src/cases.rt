@@ -29,13 +29,15 @@ struct Held {
     ghost sized: { sized records.items ≡ true },
 }
 
+// Seen as its state.
 impl std::marker::Model for Held {
     ghost Value = { State };
 
     ghost view = { λ h. record { processors = h.processors; records = h.records.items; stage = h.stage; total = h.steps } };
 }
 
-// A case under a model and a clock. Clauses name both marks of a case: a word over both would take both as well.
+// A case under a model and a clock. That the setting stays is said by each public call that changes a case, for its callers; what the
+// case holds knows nothing of it. Clauses name both marks: a word over both would take both as well.
 #[derive(Drop)]
 pub struct Case<M: Model, C: Clock> {
     setting: Setting<M, C>,

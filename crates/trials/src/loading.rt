@@ -78,7 +78,8 @@ fn a_run_cut_at_any_length_is_refused_at_the_field_that_is_cut(
     Ok(())
 }
 
-// A place in the message run and the byte that is put there, then what loading tells and a further admission.
+// A place in the message run and the byte that is put there, then what loading tells and a further admission; by place, since names
+// would stand in every row.
 type Change = (usize, u8, Result<Option<Verdict>, Refused>, Admitted);
 
 const SHAPES: [Change; 24] = [
