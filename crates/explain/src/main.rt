@@ -27,6 +27,7 @@ paper that the case writes; or the refusal, and what stays in the case.
 Exit status: 0 where the run was loaded, and after --help; 1 where the run was
 refused, where standard input could not be read, and at any other argument.";
 
+// The two models are two types, so that it branches itself, as `checker::answer` does.
 fn explain(rt: &HostRuntime) -> anyhow::Result<ExitCode> {
     let input = read_input(rt)?;
     tell_input(rt, &input)?;
@@ -39,6 +40,7 @@ fn explain(rt: &HostRuntime) -> anyhow::Result<ExitCode> {
     Ok(answer.map_or(ExitCode::FAILURE, |_| ExitCode::SUCCESS))
 }
 
+// Each program matches itself; `Request` says why.
 fn run(rt: &HostRuntime) -> anyhow::Result<ExitCode> {
     let unknown = "unknown argument: the only one is --help, which prints the usage";
     match asked(rt)?.context(unknown)? {

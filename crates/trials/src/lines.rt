@@ -285,8 +285,9 @@ fn a_load_comes_before_the_store_that_overwrites_what_it_reads(
     Ok(())
 }
 
-// The lines are those of the model for each pair of 1 to 20, in order.
+// There are 190 lines, and they are those of the model for each pair of 1 to 20, in order.
 fn are_all_pairs(rt: &impl Abort, lines: &[Line]) {
+    assert_eq!(rt; lines.len(), 190);
     let pairs = (1..20u8).flat_map(|first| (first + 1..=20).map(move |second| (first, second)));
     for (line, (first, second)) in lines.iter().zip(pairs) {
         assert_eq!(rt; numbers(*line), (2, first, second, 0));

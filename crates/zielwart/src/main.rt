@@ -25,6 +25,7 @@ fn answer_input(rt: &HostRuntime) -> anyhow::Result<()> {
     Ok(())
 }
 
+// Each program matches itself; `Request` says why.
 fn run(rt: &HostRuntime) -> anyhow::Result<ExitCode> {
     match asked(rt)?.context("takes no argument but --help")? {
         Request::Run => answer_input(rt)?,

@@ -94,6 +94,7 @@ impl Held {
         self.begin::<M, C>(head)
     }
 
+    // Of the model and the clock it takes the marks alone.
     fn load<M: Model, C: Clock>(&mut self, bytes: &[u8]) -> Result<Option<Verdict>, RunFault>
         ensures answer { result ≡ (loading M.Model.MARK C.Clock.MARK self.old bytes.now).answer }
         ensures state { self.new ≡ (loading M.Model.MARK C.Clock.MARK self.old bytes.now).state }

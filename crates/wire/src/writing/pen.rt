@@ -86,6 +86,7 @@ impl<'a> Pen<'a> {
         x.put(self);
     }
 
+    // A loop, since each turn writes to what is lent.
     pub(crate) fn write_all<T: Encode>(&mut self, xs: &[T])
         requires { HasRoom self.old (length (all_encoded T.Encode xs.now)) }
         ensures { Put self.old self.new (all_encoded T.Encode xs.now) }
