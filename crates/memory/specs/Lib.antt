@@ -9,3 +9,4 @@ pub mod Numbers
 pub mod Reading
 pub mod Runs
 pub mod Settings
+pub mod Words

@@ -1,6 +1,7 @@
 // Why the checker says no, in which layer, and where.
-ghost use Rattle.std.specs.Prelude.{◌≡◌};
+ghost use Rattle.std.specs.Prelude.{◌≡◌, Some};
 ghost use Rattle.memory.specs.Numbers.{refusal_number, layer_number};
+ghost use Rattle.memory.specs.Words.{refusal_words, layer_words};
 
 use std::fmt;
 
@@ -60,6 +61,8 @@ impl From<Layer> for u8 {
 
 // What the refusal means, in a sentence; its name alone is what `{:?}` prints.
 impl fmt::Display for Refusal {
+    ghost output = { λ refusal. Some (refusal_words refusal) };
+
     fn fmt<W: fmt::Write>(&self, f: &mut fmt::Formatter<W>) -> fmt::Result {
         f.write_str(match self {
             Refusal::Malformed =>
@@ -89,6 +92,8 @@ impl fmt::Display for Refusal {
 }
 
 impl fmt::Display for Layer {
+    ghost output = { λ layer. Some (layer_words layer) };
+
     fn fmt<W: fmt::Write>(&self, f: &mut fmt::Formatter<W>) -> fmt::Result {
         f.write_str(match self {
             Layer::RunBytes => "run bytes",
