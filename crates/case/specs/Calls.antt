@@ -1,6 +1,7 @@
 -- What each call on a case answers, and the case after it, for every case and every argument. Assumes nothing.
 use Rattle.std.specs.Prelude.{◌≡◌, ℕ, ◌+◌, ◌<◌, ◌≤◌, Bool, true, false, List, [], ◌∷◌, ◌++◌, length, drop, Some, None, Ok, Err, Option, Result}
 use Rattle.std.specs.Option.{option_map, option_map_or}
+use Rattle.memory.specs.declared.lines.Line.{Line}
 use Rattle.memory.specs.declared.records.Entry.{Entry}
 use Rattle.memory.specs.declared.records.Record.{Record}
 use Rattle.memory.specs.declared.refusals.Fault.{Fault}
@@ -13,8 +14,11 @@ use Rattle.memory.specs.Legal.{Claims}
 use Rattle.memory.specs.Numbers.{verdict_number}
 use Rattle.memory.specs.Reading.{first_orphan}
 use Rattle.memory.specs.Runs.{Run, Setting, run_of}
-use Rattle.wire.specs.Bytes.{run_bytes, slip_bytes, paper_bytes, order_body, orphan_body}
-use Rattle.case.specs.declared.stages.Call.TheVariants.{Admit, Seal}
+use Rattle.inference.specs.Listing.{Listing, Lists, Out, list_lines}
+use Rattle.wire.specs.Bytes.{run_bytes, slip_bytes, paper_bytes, order_body, lines_body, orphan_body}
+use Rattle.case.specs.declared.stages.Call.TheVariants.{Admit, Infer, Seal}
+use Rattle.case.specs.declared.stages.Progress.{Progress}
+use Rattle.case.specs.declared.stages.Stage.{Stage}
 use Rattle.case.specs.declared.stages.Stage.TheVariants.{Sealed, Decided}
 use Rattle.case.specs.State.{State, opened, with_record, with_stage, permits, verdict_at, case_fault}
 
@@ -51,6 +55,32 @@ admit_if None s e = admit_by (judgement s.processors s.records e) s
 abbrev pub admitting : State → Entry → Outcome (Result ℕ Fault)
 admitting s e = admit_if (permits s.stage Admit) s e
 
+-- Inferring lists next lines. Opposed ones decide the case, open or sealed.
+abbrev pub stage_listed : Bool → Stage → Stage
+stage_listed true g = Decided Opposed
+stage_listed false g = g
+
+abbrev pub with_lines : State → Listing → State
+with_lines s l = record { processors = s.processors; records = s.records; lines = l.lines; stage = stage_listed l.opposed s.stage; total = s.total }
+
+abbrev pub infer_if : Option Refusal → Listing → State → Outcome (Result Progress Fault)
+infer_if (Some r) l s = refused s r
+infer_if None l s = let t = with_lines s l in record { answer = Ok (record { done = l.count; verdict = verdict_at t.stage }); state = t }
+
+abbrev pub inferring : Setting → State → ℕ → Outcome (Result Progress Fault)
+inferring S s k = infer_if (permits s.stage Infer) (list_lines (run_of S s.records) k s.lines) s
+
+-- what inferring k did to a case that was s and is t, in the run R of its records
+pub record Inferred (R : Run) (k : ℕ) (s t : State) (p : Progress) : Type 0 where
+  pub opposed : Bool
+  -- the lines are those before and then the next lines, as many as it answers
+  pub lists : Lists R k s.lines (record { count = p.done; lines = t.lines; opposed = opposed })
+  -- the case is decided just where the last of them is opposed to one before it, and the verdict says so
+  pub stage : t.stage ≡ stage_listed opposed s.stage
+  pub verdict : p.verdict ≡ verdict_at t.stage
+  -- otherwise fewer than asked for means that no line with a new pair follows
+  pub out : Out R k (record { count = p.done; lines = t.lines; opposed = opposed })
+
 -- Sealing decides an empty case by its empty order, and one with an orphan by the smallest.
 abbrev pub sealed_verdict : List Record → Option Verdict
 sealed_verdict [] = Some Order
@@ -82,16 +112,16 @@ run_in model clock s = run_bytes s.processors model clock s.records
 abbrev pub slip_in : State → List ℕ
 slip_in s = slip_bytes (verdict_at s.stage) s.total
 
--- undecided and exhausted cases have no paper; the order is that of no records, and no case is decided by opposed lines, until there is a search and inference
-abbrev pub paper_at : Option Verdict → ℕ → ℕ → ℕ → Option (List ℕ)
-paper_at None model clock n = None
-paper_at (Some Order) model clock n = Some (paper_bytes (verdict_number (Some Order)) model clock n (order_body []))
-paper_at (Some Opposed) model clock n = None
-paper_at (Some (Orphan l)) model clock n = Some (paper_bytes (verdict_number (Some (Orphan l))) model clock n (orphan_body l))
-paper_at (Some Exhausted) model clock n = None
+-- undecided and exhausted cases have no paper; the only order is that of no records, until there is a search
+abbrev pub paper_at : Option Verdict → ℕ → ℕ → ℕ → List Line → Option (List ℕ)
+paper_at None model clock n ls = None
+paper_at (Some Order) model clock n ls = Some (paper_bytes (verdict_number (Some Order)) model clock n (order_body []))
+paper_at (Some Opposed) model clock n ls = Some (paper_bytes (verdict_number (Some Opposed)) model clock n (lines_body ls))
+paper_at (Some (Orphan l)) model clock n ls = Some (paper_bytes (verdict_number (Some (Orphan l))) model clock n (orphan_body l))
+paper_at (Some Exhausted) model clock n ls = None
 
 abbrev pub paper_in : ℕ → ℕ → State → Option (List ℕ)
-paper_in model clock s = paper_at (verdict_at s.stage) model clock (length s.records)
+paper_in model clock s = paper_at (verdict_at s.stage) model clock (length s.records) s.lines
 
 -- writing bs into out fills the first bytes and keeps the rest; where they are too few, all are as before
 abbrev pub Wrote : State → List ℕ → List ℕ → List ℕ → Result ℕ Fault → Type 0

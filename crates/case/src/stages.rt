@@ -17,7 +17,15 @@ pub enum Stage {
 #[derive(Clone, Copy)]
 pub enum Call {
     Admit,
+    Infer,
     Seal,
+}
+
+// What a call that goes on for a while has done: how many lines it listed, and the verdict.
+#[derive(Clone, Copy)]
+pub struct Progress {
+    pub done: u64,
+    pub verdict: Option<Verdict>,
 }
 
 impl Stage {
@@ -26,9 +34,10 @@ impl Stage {
         ensures { result_err result ≡ permits self call }
     {
         match (self, call) {
-            (Stage::Open, Call::Admit | Call::Seal) => Ok(()),
+            (Stage::Open, Call::Admit | Call::Infer | Call::Seal) => Ok(()),
+            (Stage::Sealed, Call::Infer) => Ok(()),
             (Stage::Sealed, Call::Admit | Call::Seal) => Err(Refusal::Sealed),
-            (Stage::Decided(_), Call::Admit | Call::Seal) => Err(Refusal::Decided),
+            (Stage::Decided(_), Call::Admit | Call::Infer | Call::Seal) => Err(Refusal::Decided),
         }
     }
 

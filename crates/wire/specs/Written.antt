@@ -26,3 +26,7 @@ abbrev pub paper_body : Paper → List ℕ
 paper_body (Order order) = order_body order.now
 paper_body (Opposed ls) = lines_body ls.now
 paper_body (Orphan l) = orphan_body l
+
+-- the most bytes that the paper of a case has: a head of 7, 7 for each of 4,032 lines, an end of 3
+abbrev pub most_paper : ℕ
+most_paper = 28234

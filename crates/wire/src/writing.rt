@@ -18,6 +18,9 @@ use memory::refusals::Fault;
 use memory::verdicts::{Verdict, verdict_number};
 use pen::{Encode, Pen};
 
+// The most bytes that the paper of a case has: a head of 7, 7 for each line, an end of 3.
+pub const MOST_PAPER: usize = 28234;
+
 // The lent bytes are too few.
 #[derive(Clone, Copy, Debug, PartialEq, Eq)]
 pub struct TooShort;

@@ -11,6 +11,7 @@ ghost use Rattle.case.specs.Views.{view};
 
 use crate::cases::{Case, Held};
 use crate::stages::{Call, Stage};
+use inference::lines::Lines;
 use memory::admission::judge;
 use memory::clocks::Clock;
 use memory::limits::{MOST_PROCESSORS, MOST_RECORDS};
@@ -35,7 +36,7 @@ impl Held {
     }
 
     // Lets the call through, or says why the stage does not.
-    fn permitted(&self, call: Call) -> Result<(), Fault>
+    pub(super) fn permitted(&self, call: Call) -> Result<(), Fault>
         ensures { result_err result ≡ option_map (case_fault self.now) (permits self.now.stage call) }
     {
         self.stage
@@ -51,6 +52,7 @@ impl Held {
             return Err(self.fault(Refusal::Stranger));
         }
         self.records.clear();
+        self.lines.clear();
         self.processors = processors;
         self.stage = Stage::Open;
         self.steps = 0;
@@ -115,6 +117,7 @@ impl<M: Model, C: Clock> Case<M, C> {
         let held = Held {
             processors: 1,
             records: Vec::with_capacity(heap, MOST_RECORDS)?,
+            lines: Lines::new(heap)?,
             stage: Stage::Open,
             steps: 0,
         };

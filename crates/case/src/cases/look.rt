@@ -1,11 +1,13 @@
 // Looking at a case.
-ghost use Rattle.std.specs.Prelude.{◌≡◌};
+ghost use Rattle.std.specs.Prelude.{◌≡◌, ◌-◌, ◌*◌, ◌≤◌, true, length};
 ghost use Rattle.memory.specs.Lawful.{Lawful};
+ghost use Rattle.inference.specs.Paired.{paired};
 ghost use Rattle.case.specs.Views.{view};
 
 use crate::cases::Case;
 use crate::stages::Stage;
 use memory::clocks::Clock;
+use memory::lines::Line;
 use memory::models::Model;
 use memory::records::Record;
 
@@ -23,6 +25,17 @@ impl<M: Model, C: Clock> Case<M, C> {
     {
         let held = &self.held;
         held.records.as_slice()
+    }
+
+    // The listed lines. Whatever calls came before, each names two different ones of the n records, and no pair stands twice, so
+    // that there are at most n × (n − 1).
+    pub fn lines(&self) -> &[Line]
+        ensures value { result.now ≡ (view self.now).lines }
+        ensures pairs { paired (length (view self.now).records) result.now ≡ true }
+        ensures few { length result.now ≤ length (view self.now).records * (length (view self.now).records - 1) }
+    {
+        let held = &self.held;
+        held.lines.as_slice()
     }
 
     pub fn stage(&self) -> Stage

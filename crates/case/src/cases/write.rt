@@ -1,7 +1,7 @@
 // Writing run, slip and paper into lent bytes.
-ghost use Rattle.std.specs.Prelude.{length};
+ghost use Rattle.std.specs.Prelude.{◌≤◌, [], length, unwrap_or};
 ghost use Rattle.wire.specs.Bytes.{paper_bytes};
-ghost use Rattle.wire.specs.Written.{paper_number, paper_body};
+ghost use Rattle.wire.specs.Written.{paper_number, paper_body, most_paper};
 ghost use Rattle.case.specs.Calls.{run_in, slip_in, paper_in, Wrote, WroteSome};
 ghost use Rattle.case.specs.Loading.{Reloads};
 ghost use Rattle.case.specs.State.{State};
@@ -51,16 +51,16 @@ impl<M: Model, C: Clock> Case<M, C> {
         writing::write_paper(out, head, paper).map_err(|_| self.held.fault(Refusal::Short))
     }
 
-    // The paper, where the verdict has one.
+    // The paper, where the verdict has one. It never has more bytes than `MOST_PAPER`.
     pub fn write_paper(&self, out: &mut [u8]) -> Result<usize, Fault>
-        ensures { WroteSome (view self.now) (paper_in M.Model.MARK C.Clock.MARK (view self.now)) out.old out.new result }
+        ensures wrote { WroteSome (view self.now) (paper_in M.Model.MARK C.Clock.MARK (view self.now)) out.old out.new result }
+        ensures most { length (unwrap_or (paper_in M.Model.MARK C.Clock.MARK (view self.now)) []) ≤ most_paper }
     {
         match self.held.stage.verdict() {
             Some(Verdict::Order) => self.put_paper(out, Paper::Order(&[])),
+            Some(Verdict::Opposed) => self.put_paper(out, Paper::Opposed(self.lines())),
             Some(Verdict::Orphan(load)) => self.put_paper(out, Paper::Orphan(load)),
-            Some(Verdict::Opposed | Verdict::Exhausted) | None => Err(
-                self.held.fault(Refusal::Bare),
-            ),
+            Some(Verdict::Exhausted) | None => Err(self.held.fault(Refusal::Bare)),
         }
     }
 }
