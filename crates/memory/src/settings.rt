@@ -14,19 +14,6 @@ pub struct Setting<M, C> {
     pub clock: C,
 }
 
-impl<M, C> Setting<M, C> {
-    // The two, lent.
-    pub fn as_ref(&self) -> Setting<&M, &C>
-        ensures model { result.model.now ≡ self.now.model }
-        ensures clock { result.clock.now ≡ self.now.clock }
-    {
-        Setting {
-            model: &self.model,
-            clock: &self.clock,
-        }
-    }
-}
-
 impl<M: Model, C: Clock> Setting<&M, &C> {
     // The records are of one processor, and the model orders x before a later y.
     pub fn keeps(self, x: Record, y: Record) -> bool

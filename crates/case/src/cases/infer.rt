@@ -43,6 +43,7 @@ impl<M: Model, C: Clock> Case<M, C> {
         ensures lines { IfOk result (Inferred (run_of (setting_of M.Model C.Clock self.old.setting) (view self.old).records) k (view self.old) (view self.new)) }
         ensures setting { self.new.setting ≡ self.old.setting }
     {
-        self.held.infer(self.setting.as_ref(), k)
+        let Setting { model, clock } = &self.setting;
+        self.held.infer(Setting { model, clock }, k)
     }
 }

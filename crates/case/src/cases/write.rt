@@ -56,11 +56,12 @@ impl<M: Model, C: Clock> Case<M, C> {
         ensures wrote { WroteSome (view self.now) (paper_in M.Model.MARK C.Clock.MARK (view self.now)) out.old out.new result }
         ensures most { length (unwrap_or (paper_in M.Model.MARK C.Clock.MARK (view self.now)) []) ≤ most_paper }
     {
-        match self.held.stage.verdict() {
+        let held = &self.held;
+        match held.stage.verdict() {
             Some(Verdict::Order) => self.put_paper(out, Paper::Order(&[])),
             Some(Verdict::Opposed) => self.put_paper(out, Paper::Opposed(self.lines())),
             Some(Verdict::Orphan(load)) => self.put_paper(out, Paper::Orphan(load)),
-            Some(Verdict::Exhausted) | None => Err(self.held.fault(Refusal::Bare)),
+            Some(Verdict::Exhausted) | None => Err(held.fault(Refusal::Bare)),
         }
     }
 }

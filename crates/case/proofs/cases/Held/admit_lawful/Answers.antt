@@ -1,7 +1,10 @@
-use Rattle.std.proofs.Common.{◌≡◌, List, [], true, Ok, vec_items, rules}
+use Rattle.std.proofs.Common.{◌≡◌, List, [], true, Ok, vec_items, vec_len, arith, rules}
 use Rattle.memory.specs.declared.records.Record.{Record}
 use Rattle.memory.specs.Admission.{judgement, admits, sized as all_sized}
 use Rattle.memory.proofs.Admitted.{admits_more, sized_more}
+use Rattle.inference.specs.Paired.{paired}
+use Rattle.inference.specs.Views.{lines_of}
+use Rattle.inference.proofs.Pairs.{paired_more}
 use Rattle.case.proofs.cases.Held.admit_lawful.Goals as goal
 
 pub invariant_of-self-inside : goal.invariant_of-self-inside
@@ -13,4 +16,5 @@ invariant_of-self-inside c =
     let more : List Record = vec_items c.push_reserved.new.self in
     let lawful : admits self.processors [] more ≡ true = rw c.push_reserved.ensures.items (admits_more self.processors rs c.args.e r self.lawful j) in
     let sized : all_sized more ≡ true = rw c.push_reserved.ensures.items (sized_more self.processors rs c.args.e r self.sized j (search rules) (search rules)) in
-    (search rules, (search rules, (self.opened, (lawful, (sized, tt)))))
+    let pairs : paired (vec_len c.push_reserved.new.self) (lines_of self.lines) ≡ true = paired_more (vec_len self.records) _ (omega (arith, c.push_reserved.ensures.len)) (lines_of self.lines) self.pairs in
+    (search rules, (search rules, (self.opened, (lawful, (sized, (pairs, tt))))))
