@@ -4,6 +4,8 @@
 #[cfg(test)]
 mod admission;
 #[cfg(test)]
+mod inferring;
+#[cfg(test)]
 mod lines;
 #[cfg(test)]
 mod loading;

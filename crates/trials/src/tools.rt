@@ -1,7 +1,8 @@
 // What the tests share.
 use case::cases::Case;
-use memory::clocks::GlobalClock;
-use memory::models::Sc;
+use memory::clocks::{Clock, GlobalClock};
+use memory::lines::Line;
+use memory::models::{Model, Sc};
 use memory::records::Entry;
 use memory::refusals::Fault;
 use memory::settings::Setting;
@@ -62,7 +63,7 @@ pub fn entry(processor: u8, kind: u8, address: u32, value: u64) -> Entry {
 }
 
 // Admits row after row, and compares what is told.
-pub fn admit_rows(rt: &impl Abort, case: &mut ScCase, rows: &[Row]) {
+pub fn admit_rows<M: Model, C: Clock>(rt: &impl Abort, case: &mut Case<M, C>, rows: &[Row]) {
     for (i, row) in rows.iter().enumerate() {
         let ((processor, kind, address, value, enter, commit), want) = *row;
         let e = Entry {
@@ -74,5 +75,23 @@ pub fn admit_rows(rt: &impl Abort, case: &mut ScCase, rows: &[Row]) {
             commit,
         };
         assert_eq!(rt; told(case.admit(e)), want, "row {i}");
+    }
+}
+
+// More lines than any run has.
+pub const ALL: u64 = u64::MAX;
+
+// A line's rule, first, second and third: the four bytes of a paper, which the tests pin.
+pub type Numbers = (u8, u8, u8, u8);
+
+pub fn numbers(line: Line) -> Numbers {
+    (u8::from(line.rule), line.first, line.second, line.third)
+}
+
+// The lines are these, in this order.
+pub fn are_lines(rt: &impl Abort, lines: &[Line], rows: &[Numbers]) {
+    assert_eq!(rt; lines.len(), rows.len());
+    for (i, (line, row)) in lines.iter().zip(rows).enumerate() {
+        assert_eq!(rt; numbers(*line), *row, "line {i}");
     }
 }
