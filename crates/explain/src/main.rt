@@ -1,6 +1,8 @@
 // Tells in plain words what the checker does with a run, from the first byte to the paper.
 #![tactic(auto)]
 
+mod finding;
+mod lines;
 mod papers;
 mod reports;
 mod words;
@@ -21,8 +23,9 @@ It reads the bytes of a run from standard input; only the first 4096 count.
 Byte 4 marks the memory model: 3 is Godson, anything else is read under SC.
 The clock is Global.
 
-It prints the head, each admitted record, the verdict, and the slip and the
-paper that the case writes; or the refusal, and what stays in the case.
+It prints the head, each admitted record, each line that inference lists with
+its reason, the verdict, and the slip and the paper that the case writes; or the
+refusal, and what stays in the case.
 
 Exit status: 0 where the run was loaded, and after --help; 1 where the run was
 refused, where standard input could not be read, and at any other argument.";

@@ -2,19 +2,36 @@
 use crate::words::{ClockName, ModelName, Operation, Records, VerdictName};
 use case::cases::Case;
 use memory::clocks::Clock;
+use memory::lines::Line;
 use memory::models::Model;
 use memory::records::{Record, record_at};
 use memory::refusals::Fault;
 use std::io;
 use wire::faults::ByteFault;
 use wire::fields::{Field, Part, Reader, Text};
+use wire::writing::MOST_PAPER;
 
-// Room for a slip or a paper, which a case writes into lent bytes.
-const ROOM: usize = 4096;
+// The line fields that were read back so far as the listed lines, one after the other, and where the first of them begins.
+#[derive(Clone, Copy)]
+struct ReadBack {
+    count: usize,
+    start: usize,
+}
+
+impl ReadBack {
+    // One more, at a place.
+    fn with(self, place: usize) -> ReadBack {
+        let start = if self.count == 0 { place } else { self.start };
+        ReadBack {
+            count: self.count.saturating_add(1),
+            start,
+        }
+    }
+}
 
 // Slip and paper are written into a buffer; the paper is read back.
 pub fn tell_writing<M: Model, C: Clock>(rt: &HostRuntime, case: &Case<M, C>) -> io::Result<()> {
-    let mut buffer = [0u8; ROOM];
+    let mut buffer = [0u8; MOST_PAPER];
     println!(rt; "")?;
     println!(rt; "Written:")?;
     match case.write_slip(&mut buffer) {
@@ -22,7 +39,7 @@ pub fn tell_writing<M: Model, C: Clock>(rt: &HostRuntime, case: &Case<M, C>) -> 
         Err(fault) => tell_unwritten(rt, "slip", fault)?,
     }
     match case.write_paper(&mut buffer) {
-        Ok(size) => tell_paper(rt, case.records(), &buffer[0..size]),
+        Ok(size) => tell_paper(rt, case, &buffer[0..size]),
         Err(fault) => tell_unwritten(rt, "paper", fault),
     }
 }
@@ -35,33 +52,76 @@ fn tell_unwritten(rt: &HostRuntime, what: &str, fault: Fault) -> io::Result<()> 
     )
 }
 
-fn tell_paper(rt: &HostRuntime, records: &[Record], bytes: &[u8]) -> io::Result<()> {
+fn tell_paper<M: Model, C: Clock>(
+    rt: &HostRuntime,
+    case: &Case<M, C>,
+    bytes: &[u8],
+) -> io::Result<()> {
     let size = bytes.len();
     println!(rt; "  paper: {size} bytes, read back:")?;
-    tell_fields(rt, records, &mut Reader::over(Text::Paper, bytes))
+    let mut reader = Reader::over(Text::Paper, bytes);
+    tell_fields(rt, case.records(), case.lines(), &mut reader)
 }
 
 // The fields up to the end, or to the first that cannot be read.
-fn tell_fields(rt: &HostRuntime, records: &[Record], reader: &mut Reader<'_>) -> io::Result<()> {
+fn tell_fields(
+    rt: &HostRuntime,
+    records: &[Record],
+    lines: &[Line],
+    reader: &mut Reader<'_>,
+) -> io::Result<()> {
+    let mut back = ReadBack { count: 0, start: 0 };
     loop {
         match reader.next() {
             Ok(Field::Head(part)) => tell_head(rt, part)?,
+            Ok(Field::Line(part)) if is_line(part, lines.get(back.count)) => {
+                back = back.with(part.place);
+            }
             Ok(Field::Line(part)) => tell_line(rt, part)?,
             Ok(Field::Order(part)) => tell_order(rt, part)?,
             Ok(Field::Orphan(part)) => tell_orphan(rt, records, part)?,
             Ok(Field::Record(part)) => tell_misfit(rt, "record", part)?,
-            Ok(Field::End { place }) => return tell_end(rt, place, reader.finish()),
-            Err(fault) => return tell_gap(rt, fault),
+            Ok(Field::End { place }) => return tell_end(rt, back, place, reader.finish()),
+            Err(fault) => return tell_gap(rt, back, fault),
         }
     }
 }
 
-fn tell_end(rt: &HostRuntime, place: usize, rest: Result<(), ByteFault>) -> io::Result<()> {
-    println!(rt; "    end at byte {place}")?;
-    rest.or_else(|fault| tell_gap(rt, fault))
+// The content is that of the line.
+fn is_line(part: Part<'_>, line: Option<&Line>) -> bool {
+    line.is_some_and(|line| {
+        part.content == [u8::from(line.rule), line.first, line.second, line.third].as_slice()
+    })
 }
 
-fn tell_gap(rt: &HostRuntime, fault: ByteFault) -> io::Result<()> {
+// The lines are told where they are listed: here it is told that they stand in the paper.
+fn tell_back(rt: &HostRuntime, back: ReadBack) -> io::Result<()> {
+    let ReadBack { count, start } = back;
+    if count == 0 {
+        return Ok(());
+    }
+    println!(rt;
+        "    line fields from byte {start} on: {count}, the lines 1 to {count} listed above"
+    )
+}
+
+fn tell_end(
+    rt: &HostRuntime,
+    back: ReadBack,
+    place: usize,
+    rest: Result<(), ByteFault>,
+) -> io::Result<()> {
+    tell_back(rt, back)?;
+    println!(rt; "    end at byte {place}")?;
+    rest.or_else(|fault| tell_unread(rt, fault))
+}
+
+fn tell_gap(rt: &HostRuntime, back: ReadBack, fault: ByteFault) -> io::Result<()> {
+    tell_back(rt, back)?;
+    tell_unread(rt, fault)
+}
+
+fn tell_unread(rt: &HostRuntime, fault: ByteFault) -> io::Result<()> {
     let place = fault.place;
     println!(rt; "    no field can be read at byte {place}")
 }
@@ -91,7 +151,9 @@ fn tell_line(rt: &HostRuntime, part: Part<'_>) -> io::Result<()> {
         return tell_misfit(rt, "line", part);
     };
     let place = part.place;
-    println!(rt; "    line at byte {place}: rule {rule}, records {first}, {second} and {third}")
+    println!(rt;
+        "    line at byte {place}, not listed there: rule {rule}, records {first}, {second} and {third}"
+    )
 }
 
 fn tell_order(rt: &HostRuntime, part: Part<'_>) -> io::Result<()> {

@@ -1,8 +1,9 @@
-// What is told of a case: head, records, refusal or verdict.
+// What is told of a case: head, records, and the refusal, or the lines and the verdict.
 ghost use Rattle.std.specs.Prelude.{◌≡◌, IfOk};
 ghost use Rattle.case.specs.Loading.{loading};
 ghost use Rattle.case.specs.State.{opened as begun};
 
+use crate::lines::tell_lines;
 use crate::papers::tell_writing;
 use crate::words::{Claim, ClockName, ModelName, Operation, Records, VerdictName};
 use case::cases::Case;
@@ -56,6 +57,7 @@ pub fn tell<M: Model + Drop>(
     match answer {
         Ok(_) => {
             tell_run(rt, &case)?;
+            tell_inference(rt, &mut case)?;
             tell_verdict(rt, &case)?;
             tell_writing(rt, &case)?;
         }
@@ -128,13 +130,27 @@ fn tell_fault(rt: &HostRuntime, fault: Fault) -> io::Result<()> {
     println!(rt; "  {refusal}")
 }
 
+// Infers to the end, unless sealing decided the case, and tells the lines.
+fn tell_inference<M: Model, C: Clock>(rt: &HostRuntime, case: &mut Case<M, C>) -> io::Result<()> {
+    println!(rt; "")?;
+    println!(rt; "The end was read, no byte follows it, and the case was sealed.")?;
+    let Ok(progress) = case.infer(u64::MAX) else {
+        return println!(rt; "Sealing decided it, so nothing was inferred.");
+    };
+    println!(rt; "Sealing left it undecided, so it was inferred what must come before what.")?;
+    tell_lines(rt, case)?;
+    match progress.verdict {
+        Some(_) => Ok(()),
+        None => println!(rt; "  No two are opposed, and no further line follows."),
+    }
+}
+
 fn tell_verdict<M: Model, C: Clock>(rt: &HostRuntime, case: &Case<M, C>) -> io::Result<()> {
     let verdict = case.stage().verdict();
     let number = verdict_number(verdict);
     let steps = case.steps();
     println!(rt; "")?;
-    println!(rt; "The end was read, no byte follows it, and the case was sealed:")?;
-    println!(rt; "  verdict: {number}, {}", VerdictName(number))?;
+    println!(rt; "Verdict: {number}, {}", VerdictName(number))?;
     println!(rt; "  steps: {steps}")?;
     println!(rt; "  {}", Claim(verdict))
 }

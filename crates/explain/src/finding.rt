@@ -1,0 +1,35 @@
+// The store that a load reads, and the line that a line is opposed to.
+ghost use Rattle.std.specs.Prelude.{◌≡◌, length};
+ghost use Rattle.memory.specs.Reading.{Least};
+ghost use Rattle.inference.specs.Rules.{has_pair};
+ghost use Rattle.explain.specs.Finding.{read_by, opposed_to};
+
+use memory::lines::Line;
+use memory::reading::reads_from;
+use memory::records::Record;
+
+// The number of the store that a load reads, if it reads one.
+pub fn source_of(load: Record, records: &[Record]) -> Option<usize>
+    ensures { Least (read_by load records.now) (length records.now) result }
+{
+    records
+        .iter()
+        .position(|store| reads_from(load, *store))
+        .map(|index| index + 1)
+}
+
+fn is_opposed(line: Line, other: Line) -> bool
+    ensures { result ≡ has_pair line.second line.first other }
+{
+    other.first == line.second && other.second == line.first
+}
+
+// The number of the first line that is opposed to this one, if there is one.
+pub fn opposed_line(line: Line, lines: &[Line]) -> Option<usize>
+    ensures { Least (opposed_to line lines.now) (length lines.now) result }
+{
+    lines
+        .iter()
+        .position(|other| is_opposed(line, *other))
+        .map(|index| index + 1)
+}
