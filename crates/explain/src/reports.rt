@@ -137,11 +137,12 @@ fn tell_inference<M: Model, C: Clock>(rt: &HostRuntime, case: &mut Case<M, C>) -
     let Ok(progress) = case.infer(u64::MAX) else {
         return println!(rt; "Sealing decided it, so nothing was inferred.");
     };
-    println!(rt; "Sealing left it undecided, so it was inferred what must come before what.")?;
+    println!(rt; "Sealing left it undecided, so inference looked for what must come before what.")?;
     tell_lines(rt, case)?;
-    match progress.verdict {
-        Some(_) => Ok(()),
-        None => println!(rt; "  No two are opposed, and no further line follows."),
+    match (progress.verdict, progress.done) {
+        (Some(_), _) => Ok(()),
+        (None, 0) => println!(rt; "  None follows from the records."),
+        (None, _) => println!(rt; "  No two are opposed, and no further line follows."),
     }
 }
 
