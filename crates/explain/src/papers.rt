@@ -152,7 +152,7 @@ fn tell_line(rt: &HostRuntime, part: Part<'_>) -> io::Result<()> {
     };
     let place = part.place;
     println!(rt;
-        "    line at byte {place}, not listed there: rule {rule}, records {first}, {second} and {third}"
+        "    line at byte {place}: rule {rule}, records {first}, {second} and {third}, which is not the next line listed above"
     )
 }
 
