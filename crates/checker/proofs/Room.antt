@@ -5,18 +5,8 @@ use Rattle.std.specs.Option.{unwrap_or}
 use Rattle.std.specs.Result.{result_unwrap_or}
 use Rattle.std.proofs.lemmas.List.{take_at, length-append, append_assoc}
 use Rattle.memory.specs.declared.refusals.Fault.{Fault}
-use Rattle.memory.specs.declared.verdicts.Verdict.{Verdict}
-use Rattle.memory.specs.declared.verdicts.Verdict.TheVariants.{Order, Opposed, Orphan, Exhausted}
 use Rattle.case.specs.State.{State}
-use Rattle.case.specs.Calls.{paper_at, WroteSome}
-
--- every paper has at most 14 bytes
-pub paper_room : (model clock n : ℕ) (v : Option Verdict) → length (unwrap_or (paper_at v model clock n) []) ≤ 14
-paper_room model clock n None = search rules
-paper_room model clock n (Some Order) = search rules
-paper_room model clock n (Some Opposed) = search rules
-paper_room model clock n (Some (Orphan l)) = search rules
-paper_room model clock n (Some Exhausted) = search rules
+use Rattle.case.specs.Calls.{WroteSome}
 
 -- with that room, the paper stands in front, if there is one
 pub paper_front : (s : State) (o : Option (List ℕ)) (out after : List ℕ) (r : Result ℕ Fault) → length (unwrap_or o []) ≤ length out → WroteSome s o out after r → (rest : List ℕ) × (after ≡ unwrap_or o [] ++ rest) × (result_unwrap_or r 0 ≡ length (unwrap_or o []))

@@ -1,11 +1,11 @@
 // What the program answers: a run's bytes in, slip and paper or a notice out.
 #![tactic(auto)]
 
-ghost use Rattle.std.specs.Prelude.{◌≡◌, true, [], ◌++◌, take, unwrap_or, is_ok, IfOk, slice_get};
-ghost use Rattle.checker.specs.Output.{output, answer_to, OutputClaims};
+ghost use Rattle.std.specs.Prelude.{◌≡◌, take, IfOk, slice_get};
+ghost use Rattle.checker.specs.Output.{verdict_bytes, output, answer_to, OutputClaims};
+ghost use Rattle.checker.specs.Sound.{SoundHistories};
 ghost use Rattle.memory.specs.Limits.{input_limit};
 ghost use Rattle.memory.specs.Settings.{setting_of};
-ghost use Rattle.case.specs.Calls.{slip_in, paper_in};
 ghost use Rattle.case.specs.Views.{view};
 ghost use Rattle.wire.specs.Bytes.{notice_bytes};
 ghost use Rattle.wire.specs.Faults.{run_fault};
@@ -18,16 +18,17 @@ use memory::settings::Setting;
 use std::alloc::{AllocError, Global};
 use wire::faults::RunFault;
 use wire::writing;
+use wire::writing::MOST_PAPER;
 
-// Room for a slip and a paper, or for a notice.
-const OUTPUT_ROOM: usize = 26;
+// Room for a slip of 12 bytes and any paper, or for a notice.
+const OUTPUT_ROOM: usize = 12 + MOST_PAPER;
 
 // The slip, then the paper, if there is one. A case writes into lent bytes, which `room` is.
 fn write_verdict<'a, M: Model, C: Clock>(
     case: &Case<M, C>,
     room: &'a mut [u8; OUTPUT_ROOM],
 ) -> &'a [u8]
-    ensures { result.now ≡ slip_in (view case.now) ++ unwrap_or (paper_in M.Model.MARK C.Clock.MARK (view case.now)) [] }
+    ensures { result.now ≡ verdict_bytes M.Model.MARK C.Clock.MARK (view case.now) }
 {
     let slip = case.write_slip(room).unwrap();
     let paper = case.write_paper(&mut room[slip..]).unwrap_or(0);
@@ -41,19 +42,25 @@ fn write_refusal<'a>(fault: RunFault, room: &'a mut [u8; OUTPUT_ROOM]) -> &'a [u
     &room[..notice]
 }
 
-// What is written for the bytes of a run, under a model and a clock; what its verdict claims of the records read is true.
+// What is written for the bytes of a run, under a model and a clock; what its verdict claims of the records read is true. And of every
+// case under this model and clock, whatever was called on it, lines and verdict are sound.
 pub fn check<M: Model + Drop, C: Clock + Drop>(
     heap: Global,
     setting: Setting<M, C>,
     bytes: &[u8],
 ) -> Result<Vec<u8>, AllocError>
-    ensures bytes { IfOk result (λ v. v.items ≡ output M.Model.MARK C.Clock.MARK bytes.now) }
-    ensures claims { is_ok result ≡ true → OutputClaims (setting_of M.Model C.Clock setting) bytes.now }
+    ensures bytes { IfOk result (λ v. v.items ≡ output (setting_of M.Model C.Clock setting) bytes.now) }
+    ensures claims { OutputClaims (setting_of M.Model C.Clock setting) bytes.now }
+    ensures sound { SoundHistories (setting_of M.Model C.Clock setting) }
 {
     let mut case = Case::new(heap, setting)?;
     let mut room = [0; OUTPUT_ROOM];
     let answer = match case.load(bytes) {
-        Ok(_) => write_verdict(&case, &mut room),
+        Ok(_) => {
+            // Refused where sealing decided the case, which then stays as it was.
+            let _ = case.infer(u64::MAX);
+            write_verdict(&case, &mut room)
+        }
         Err(fault) => write_refusal(fault, &mut room),
     };
     Vec::from_slice(heap, answer)

@@ -2,7 +2,7 @@ use Rattle.std.proofs.Common.{ℕ, ◌-◌, List, Ok, ◌∙◌, subst, rules}
 use Rattle.case.specs.State.{State}
 use Rattle.case.specs.Calls.{slip_in, paper_in, Wrote}
 use Rattle.case.specs.Views.{view}
-use Rattle.checker.proofs.Room.{paper_room, paper_front, joined}
+use Rattle.checker.proofs.Room.{paper_front, joined}
 use Rattle.checker.proofs.write_verdict.Goals as goal
 
 pub returns : goal.returns
@@ -11,5 +11,5 @@ returns g c =
     let out : List ℕ = c.write_slip.new.out in
     let slip : ℕ = c.unwrap-slip.result in
     let told : Wrote s (slip_in s) c.args.room.now out (Ok slip) = subst (λ r. Wrote s (slip_in s) c.args.room.now out r) c.unwrap-slip.ensures c.write_slip.ensures in
-    let paper = paper_front s (paper_in g.M.Model.MARK g.C.Clock.MARK s) _ _ _ (search (rules, paper_room)) c.write_paper.ensures in
-    joined slip c.unwrap_or-paper.result (26 - slip) out c.write_paper.new.out (slip_in s) _ _ paper.0 told.2 told.0 paper.1 (c.unwrap_or-paper.ensures ∙ paper.2)
+    let paper = paper_front s (paper_in g.M.Model.MARK g.C.Clock.MARK s) _ _ _ (search rules) c.write_paper.ensures.wrote in
+    joined slip c.unwrap_or-paper.result (28246 - slip) out c.write_paper.new.out (slip_in s) _ _ paper.0 told.2 told.0 paper.1 (c.unwrap_or-paper.ensures ∙ paper.2)
