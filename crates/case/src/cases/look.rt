@@ -29,6 +29,7 @@ impl<M: Model, C: Clock> Case<M, C> {
 
     // The listed lines. Whatever calls came before, each names two different ones of the n records, and no pair stands twice, so
     // that there are at most n × (n − 1).
+    #[tactic(auto, using(inference::proofs::Pairs::few_lines))]
     pub fn lines(&self) -> &[Line]
         ensures value { result.now ≡ (view self.now).lines }
         ensures pairs { paired (length (view self.now).records) result.now ≡ true }

@@ -52,6 +52,7 @@ impl<M: Model, C: Clock> Case<M, C> {
     }
 
     // The paper, where the verdict has one. It never has more bytes than `MOST_PAPER`.
+    #[tactic(auto, using(crate::proofs::Papers::papers_long))]
     pub fn write_paper(&self, out: &mut [u8]) -> Result<usize, Fault>
         ensures wrote { WroteSome (view self.now) (paper_in M.Model.MARK C.Clock.MARK (view self.now)) out.old out.new result }
         ensures most { length (unwrap_or (paper_in M.Model.MARK C.Clock.MARK (view self.now)) []) ≤ most_paper }
