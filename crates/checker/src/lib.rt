@@ -42,8 +42,8 @@ fn write_refusal<'a>(fault: RunFault, room: &'a mut [u8; OUTPUT_ROOM]) -> &'a [u
     &room[..notice]
 }
 
-// What is written for the bytes of a run, under a model and a clock; what its verdict claims of the records read is true. And of every
-// case under this model and clock, whatever was called on it, lines and verdict are sound.
+// What is written for the bytes of a run, under a model and a clock; what its verdict claims of the records read is true. And after every
+// history of calls on a case under this model and clock, its lines and its verdict are sound.
 pub fn check<M: Model + Drop, C: Clock + Drop>(
     heap: Global,
     setting: Setting<M, C>,
