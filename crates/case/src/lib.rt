@@ -1,4 +1,4 @@
-// The case: opened, records admitted, sealed; loaded from a run's bytes; written as run, slip and paper.
+// The case: opened, records admitted, lines inferred, sealed; loaded from a run's bytes; written as run, slip and paper.
 #![tactic(auto)]
 
 pub mod cases;

@@ -18,7 +18,7 @@ pub record Sound (S : Setting) (s : State) (a : Admitted) : Type 0 where
   pub lines : (more : List Record) → admits a.processors a.records more ≡ true → (order : List ℕ) → Legal (run_of S (a.records ++ more)) order → Holds s.lines order
   -- n records have at most n × (n − 1) lines
   pub few : length s.lines ≤ length a.records * (length a.records - 1)
-  -- its verdict is opposed lines or an orphan only where the admitted records have no legal order, and an order only where there are none, whose empty order is legal
+  -- its verdict is opposed lines or an orphan only where the admitted records have no legal order, and an order only where the empty order is a legal one of theirs
   pub verdict : Claims (run_of S a.records) [] (verdict_at s.stage)
 
 -- whatever the case was before: after every opening that is not refused, and then any calls, it is sound
