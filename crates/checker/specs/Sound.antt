@@ -1,4 +1,4 @@
--- The promise: what holds of every case, whatever was called on it. Assumes nothing.
+-- The promise: what holds of a case after every history of calls on it. Assumes nothing.
 use Rattle.std.specs.Prelude.{◌≡◌, ℕ, ◌-◌, ◌*◌, ◌≤◌, true, List, [], ◌++◌, length}
 use Rattle.memory.specs.declared.records.Record.{Record}
 use Rattle.memory.specs.Admission.{opens, admits}

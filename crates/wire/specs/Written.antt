@@ -1,5 +1,6 @@
 -- What writing leaves in lent bytes. Assumes nothing.
-use Rattle.std.specs.Prelude.{◌≡◌, ℕ, ◌<◌, ◌≤◌, List, ◌++◌, length, drop, Some, Ok, Err, Result}
+use Rattle.std.specs.Prelude.{◌≡◌, ℕ, ◌+◌, ◌*◌, ◌<◌, ◌≤◌, List, ◌++◌, length, drop, Some, Ok, Err, Result}
+use Rattle.memory.specs.Limits.{most_lines}
 use Rattle.memory.specs.Numbers.{verdict_number}
 use Rattle.memory.specs.declared.verdicts.Verdict.{Verdict}
 use Rattle.memory.specs.declared.verdicts.Verdict.TheVariants as verdict
@@ -27,6 +28,6 @@ paper_body (Order order) = order_body order.now
 paper_body (Opposed ls) = lines_body ls.now
 paper_body (Orphan l) = orphan_body l
 
--- the most bytes that the paper of a case has: a head of 7, 7 for each of 4,032 lines, an end of 3
+-- the most bytes that the paper of a case has: a head of 7 and an end of 3, and 7 for each line
 abbrev pub most_paper : ℕ
-most_paper = 28234
+most_paper = 10 + 7 * most_lines

@@ -12,14 +12,15 @@ mod pen;
 
 use crate::fields::RunHead;
 use crate::tags::Tag;
+use memory::limits::MOST_LINES;
 use memory::lines::Line;
 use memory::records::Record;
 use memory::refusals::Fault;
 use memory::verdicts::{Verdict, verdict_number};
 use pen::{Encode, Pen};
 
-// The most bytes that the paper of a case has: a head of 7, 7 for each line, an end of 3.
-pub const MOST_PAPER: usize = 28234;
+// The most bytes that the paper of a case has: a head of 7 and an end of 3, and 7 for each line.
+pub const MOST_PAPER: usize = 10 + 7 * MOST_LINES;
 
 // The lent bytes are too few.
 #[derive(Clone, Copy, Debug, PartialEq, Eq)]

@@ -25,9 +25,8 @@ impl Held {
     {
         self.permitted(Call::Infer)?;
         let listed = self.lines.infer(setting, &self.records, k).unwrap();
-        if listed.opposed {
-            self.stage = Stage::Decided(Verdict::Opposed);
-        }
+        let decided = listed.opposed.then_some(Verdict::Opposed);
+        self.stage = decided.map_or(self.stage, Stage::Decided);
         Ok(Progress {
             done: listed.count,
             verdict: self.stage.verdict(),

@@ -7,8 +7,3 @@ pub invariant_of-self-inside : goal.invariant_of-self-inside
 invariant_of-self-inside g c =
     let held = c.self.inside in
     (held.room, (held.few, (held.opened, (held.lawful, (held.sized, (still_paired _ _ (vec_len held.records) (lines_of held.lines) _ c.infer.result _ c.unwrap-listed.ensures c.infer.ensures.lists (omega (arith, c.deref.ensures.len)) held.pairs, tt))))))
-
-pub invariant_of-self-inside-else-listed : goal.invariant_of-self-inside-else-listed
-invariant_of-self-inside-else-listed g c =
-    let held = c.self.inside in
-    (held.room, (held.few, (held.opened, (held.lawful, (held.sized, (still_paired _ _ (vec_len held.records) (lines_of held.lines) _ c.infer.result _ c.unwrap-listed.ensures c.infer.ensures.lists (omega (arith, c.deref.ensures.len)) held.pairs, tt))))))
