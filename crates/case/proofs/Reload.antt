@@ -26,7 +26,7 @@ entry_back r a v e c =
 
 -- an open case of p processors with the records rs
 abbrev holding : ℕ → List Record → State
-holding p rs = record { processors = p; records = rs; lines = []; stage = (opened p).stage; total = 0 }
+holding p rs = record { processors = p; records = rs; lines = []; stage = (opened p).stage; standing = (opened p).standing; total = 0 }
 
 record_loads : (p at : ℕ) (rs : List Record) (r : Record) (rest : State → Loaded) → is_ok (judgement p rs (logged r)) ≡ true → (ltb r.address 4294967296 && ltb r.value 18446744073709551616) ≡ true →
     load_entry (entry_of at (entry_bytes (logged r))) at (holding p rs) rest ≡ rest (holding p (rs ++ r ∷ []))

@@ -1,5 +1,5 @@
 -- What each call on a case answers, and the case after it, for every case and every argument. Assumes nothing.
-use Rattle.std.specs.Prelude.{◌≡◌, ℕ, ◌+◌, ◌<◌, ◌≤◌, Bool, true, false, List, [], ◌∷◌, ◌++◌, length, drop, Some, None, Ok, Err, Option, Result}
+use Rattle.std.specs.Prelude.{◌≡◌, ℕ, ◌+◌, ◌<◌, ◌≤◌, Bool, true, false, List, [], ◌∷◌, ◌++◌, length, drop, Some, None, Ok, Err, Option, Result, nat_lt}
 use Rattle.std.specs.Option.{option_map, option_map_or}
 use Rattle.memory.specs.declared.lines.Line.{Line}
 use Rattle.memory.specs.declared.records.Entry.{Entry}
@@ -7,20 +7,24 @@ use Rattle.memory.specs.declared.records.Record.{Record}
 use Rattle.memory.specs.declared.refusals.Fault.{Fault}
 use Rattle.memory.specs.declared.refusals.Refusal.{Refusal}
 use Rattle.memory.specs.declared.refusals.Refusal.TheVariants as refuse
+use Rattle.memory.specs.declared.verdicts.Progress.{Progress}
 use Rattle.memory.specs.declared.verdicts.Verdict.{Verdict}
 use Rattle.memory.specs.declared.verdicts.Verdict.TheVariants.{Order, Opposed, Orphan, Exhausted}
 use Rattle.memory.specs.Admission.{opens, judgement}
 use Rattle.memory.specs.Legal.{Claims}
+use Rattle.memory.specs.Limits.{most_steps}
 use Rattle.memory.specs.Numbers.{verdict_number}
 use Rattle.memory.specs.Reading.{first_orphan}
 use Rattle.memory.specs.Runs.{Run, Setting, run_of}
 use Rattle.inference.specs.Listing.{Listing, Lists, Out, list_lines}
+use Rattle.search.specs.Steps.{Walk, Steps, Ends, walk}
+use Rattle.search.specs.Views.{walk_to}
 use Rattle.wire.specs.Bytes.{run_bytes, slip_bytes, paper_bytes, order_body, lines_body, orphan_body}
-use Rattle.case.specs.declared.stages.Call.TheVariants.{Admit, Infer, Seal}
-use Rattle.case.specs.declared.stages.Progress.{Progress}
-use Rattle.case.specs.declared.stages.Stage.{Stage}
-use Rattle.case.specs.declared.stages.Stage.TheVariants.{Sealed, Decided}
-use Rattle.case.specs.State.{State, opened, with_record, with_stage, permits, verdict_at, case_fault}
+use Rattle.stages.specs.declared.Call.TheVariants.{Admit, Infer, Seal, Search}
+use Rattle.stages.specs.declared.Stage.{Stage}
+use Rattle.stages.specs.declared.Stage.TheVariants.{Sealed, Decided}
+use Rattle.stages.specs.Stages.{permits, verdict_at}
+use Rattle.case.specs.State.{State, opened, with_record, with_stage, case_fault}
 
 pub record Outcome (A : Type 0) : Type 0 where
   pub answer : A
@@ -61,7 +65,7 @@ stage_listed true g = Decided Opposed
 stage_listed false g = g
 
 abbrev pub with_lines : State → Listing → State
-with_lines s l = record { processors = s.processors; records = s.records; lines = l.lines; stage = stage_listed l.opposed s.stage; total = s.total }
+with_lines s l = record { processors = s.processors; records = s.records; lines = l.lines; stage = stage_listed l.opposed s.stage; standing = s.standing; total = s.total }
 
 abbrev pub infer_if : Option Refusal → Listing → State → Outcome (Result Progress Fault)
 infer_if (Some r) l s = refused s r
@@ -81,13 +85,42 @@ pub record Inferred (R : Run) (k : ℕ) (s t : State) (p : Progress) : Type 0 wh
   -- otherwise fewer than asked for means that no line with a new pair follows
   pub out : Out R k (record { count = p.done; lines = t.lines; opposed = opposed })
 
+-- Searching makes steps. An order that is found, or a search that is exhausted, decides the case.
+abbrev pub stage_after : Option Verdict → Stage → Stage
+stage_after verdict g = option_map_or Decided verdict g
+
+abbrev pub with_steps : State → Walk → State
+with_steps s w = record { processors = s.processors; records = s.records; lines = s.lines; stage = stage_after w.verdict s.stage; standing = w.standing; total = s.total + w.count }
+
+-- refused where the total and k together are above the most
+abbrev pub search_within : Bool → Walk → State → Outcome (Result Progress Fault)
+search_within true w s = refused s refuse.Spent
+search_within false w s = let t = with_steps s w in record { answer = Ok (record { done = w.count; verdict = verdict_at t.stage }); state = t }
+
+abbrev pub search_if : Option Refusal → ℕ → Walk → State → Outcome (Result Progress Fault)
+search_if (Some r) k w s = refused s r
+search_if None k w s = search_within (nat_lt most_steps (s.total + k)) w s
+
+abbrev pub searching : Setting → State → ℕ → Outcome (Result Progress Fault)
+searching S s k = search_if (permits s.stage Search) k (walk (run_of S s.records) s.lines k s.standing) s
+
+-- what searching k did to a case that was s and is t, in the run R of its records
+pub record Searched (R : Run) (k : ℕ) (s t : State) (p : Progress) : Type 0 where
+  -- the search goes on from where it stood, by as many steps as it answers
+  pub steps : Steps R s.lines k s.standing (walk_to p t.standing)
+  -- the case is decided just where the last step decided it
+  pub stage : t.stage ≡ stage_after p.verdict s.stage
+  -- fewer steps than asked for means decided
+  pub ends : Ends k (walk_to p t.standing)
+  pub total : t.total ≡ s.total + p.done
+
 -- Sealing decides an empty case by its empty order, and one with an orphan by the smallest.
 abbrev pub sealed_verdict : List Record → Option Verdict
 sealed_verdict [] = Some Order
 sealed_verdict (r ∷ rs) = option_map Orphan (first_orphan (r ∷ rs))
 
 abbrev pub sealed : State → State
-sealed s = with_stage s (option_map_or Decided (sealed_verdict s.records) Sealed)
+sealed s = with_stage s (stage_after (sealed_verdict s.records) Sealed)
 
 abbrev pub seal_if : Option Refusal → State → Outcome (Result (Option Verdict) Fault)
 seal_if (Some r) s = refused s r
@@ -112,16 +145,18 @@ run_in model clock s = run_bytes s.processors model clock s.records
 abbrev pub slip_in : State → List ℕ
 slip_in s = slip_bytes (verdict_at s.stage) s.total
 
--- undecided and exhausted cases have no paper; the only order is that of no records, until there is a search
-abbrev pub paper_at : Option Verdict → ℕ → ℕ → ℕ → List Line → Option (List ℕ)
-paper_at None model clock n ls = None
-paper_at (Some Order) model clock n ls = Some (paper_bytes (verdict_number (Some Order)) model clock n (order_body []))
-paper_at (Some Opposed) model clock n ls = Some (paper_bytes (verdict_number (Some Opposed)) model clock n (lines_body ls))
-paper_at (Some (Orphan l)) model clock n ls = Some (paper_bytes (verdict_number (Some (Orphan l))) model clock n (orphan_body l))
-paper_at (Some Exhausted) model clock n ls = None
+-- the body of the paper: the placed records where they are an order, or the lines, or the orphan; undecided and exhausted cases have
+-- none
+abbrev pub body_at : Option Verdict → List Line → List ℕ → Option (List ℕ)
+body_at None ls placed = None
+body_at (Some Order) ls placed = Some (order_body placed)
+body_at (Some Opposed) ls placed = Some (lines_body ls)
+body_at (Some (Orphan l)) ls placed = Some (orphan_body l)
+body_at (Some Exhausted) ls placed = None
 
 abbrev pub paper_in : ℕ → ℕ → State → Option (List ℕ)
-paper_in model clock s = paper_at (verdict_at s.stage) model clock (length s.records) s.lines
+paper_in model clock s =
+    let v : Option Verdict = verdict_at s.stage in option_map (paper_bytes (verdict_number v) model clock (length s.records)) (body_at v s.lines s.standing.placed)
 
 -- writing bs into out fills the first bytes and keeps the rest; where they are too few, all are as before
 abbrev pub Wrote : State → List ℕ → List ℕ → List ℕ → Result ℕ Fault → Type 0

@@ -1,5 +1,4 @@
-// The case: opened, records admitted, lines inferred, sealed; loaded from a run's bytes; written as run, slip and paper.
+// The case: opened, records admitted, lines inferred, sealed, searched; loaded from a run's bytes; written as run, slip and paper.
 #![tactic(auto)]
 
 pub mod cases;
-pub mod stages;

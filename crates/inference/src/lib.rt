@@ -4,4 +4,4 @@
 pub mod lines;
 pub mod listing;
 pub mod premises;
-mod runs;
+pub mod runs;

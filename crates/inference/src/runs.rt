@@ -11,7 +11,7 @@ mod numbers;
 
 // Records under a model and a clock, no more than a run may have.
 #[derive(Drop)]
-pub(crate) struct Run<'a, M: Model, C: Clock> {
+pub struct Run<'a, M: Model, C: Clock> {
     pub(crate) setting: Setting<&'a M, &'a C>,
     pub(crate) records: &'a [Record],
     ghost few: { length records.now ≤ most_records },

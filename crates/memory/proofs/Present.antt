@@ -1,13 +1,8 @@
 -- Every record stands in a legal order: n different numbers of 1 to n are all of them. Assumes nothing.
 use Rattle.std.proofs.Common.{◌≡◌, ℕ, zero, suc, ◌+◌, ◌<◌, ◌≤◌, Bool, true, false, cond, not, eqb, List, [], ◌∷◌, length, get_or, sym, refl, ap, subst, ⊎_elim, zero-le, arith}
 use Rattle.std.proofs.lemmas.Bool.{eq-eqb, eqb-true, or_parts, or_cases, or_left, not-true, not_from_true, not_from_false, cases_Bool, cases_eq, both_ways, true≢false}
-use Rattle.std.specs.List.{list_any}
-use Rattle.memory.specs.Runs.{Run, Known}
+use Rattle.memory.specs.Runs.{Run, Known, has}
 use Rattle.memory.specs.Legal.{Legal}
-
--- a is among xs
-abbrev pub has : List ℕ → ℕ → Bool
-has xs a = list_any (λ x. eqb x a) xs
 
 pub has_index : (xs : List ℕ) (a : ℕ) → has xs a ≡ true → (j : ℕ) × (j < length xs) × (get_or xs j 0 ≡ a)
 has_index [] a h = absurd (both_ways false refl h)
@@ -40,14 +35,14 @@ count_less p q x (suc n) h some under yes' no' =
     (cases_eq x (suc n))
 
 -- how many of 1 to n are not among xs
-abbrev left : ℕ → List ℕ → ℕ
+abbrev pub left : ℕ → List ℕ → ℕ
 left n xs = count (λ k. not (has xs k)) n
 
-left_all : (n : ℕ) → left n [] ≡ n
+pub left_all : (n : ℕ) → left n [] ≡ n
 left_all zero = refl
 left_all (suc n) = omega (arith, left_all n)
 
-left_less : (n : ℕ) (xs : List ℕ) (x : ℕ) → 0 < x → x ≤ n → has xs x ≡ false → left n (x ∷ xs) + 1 ≤ left n xs
+pub left_less : (n : ℕ) (xs : List ℕ) (x : ℕ) → 0 < x → x ≤ n → has xs x ≡ false → left n (x ∷ xs) + 1 ≤ left n xs
 left_less n xs x some under new =
     count_less (λ k. not (has xs k)) (λ k. not (has (x ∷ xs) k)) x n
     (λ k f. not_from_false (has xs k) (or_parts (eqb x k) (has xs k) (not-true (has (x ∷ xs) k) f)).1)
@@ -58,7 +53,7 @@ abbrev pub Distinct : Run → List ℕ → Type 0
 Distinct R [] = Unit {0}
 Distinct R (x ∷ xs) = Known R x × (has xs x ≡ false) × Distinct R xs
 
-left_length : (R : Run) (xs : List ℕ) → Distinct R xs → left R.size xs + length xs ≤ R.size
+pub left_length : (R : Run) (xs : List ℕ) → Distinct R xs → left R.size xs + length xs ≤ R.size
 left_length R [] d = omega (arith, left_all R.size)
 left_length R (x ∷ xs) d = omega (arith, left_less R.size xs x d.0.some d.0.within d.1, left_length R xs d.2)
 

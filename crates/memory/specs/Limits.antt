@@ -1,4 +1,4 @@
--- The limits of a run.
+-- The limits of runs, of steps and of the programs.
 use Rattle.std.specs.Prelude.{ℕ}
 
 -- a run has at most so many records
@@ -16,6 +16,14 @@ most_processors = 16
 -- 2^62: every reading of a counter is below it
 abbrev pub reading_limit : ℕ
 reading_limit = 4611686018427387904
+
+-- 2^62: no case makes more steps in all since its opening
+abbrev pub most_steps : ℕ
+most_steps = 4611686018427387904
+
+-- so many steps the programs search
+abbrev pub program_steps : ℕ
+program_steps = 1000000
 
 -- so many bytes of a program's input count
 abbrev pub input_limit : ℕ

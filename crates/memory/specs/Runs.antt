@@ -1,5 +1,6 @@
 -- A run under a model and a clock, by the numbers of its records, from 1. Assumes nothing.
-use Rattle.std.specs.Prelude.{ℕ, ◌-◌, ◌<◌, ◌≤◌, Bool, not, ◌&&◌, List, length, ◌==◌, nat_lt, slice_index_or}
+use Rattle.std.specs.Prelude.{ℕ, ◌-◌, ◌<◌, ◌≤◌, Bool, not, ◌&&◌, ◌||◌, List, length, ◌==◌, nat_lt, slice_index_or}
+use Rattle.std.specs.List.{list_any}
 use Rattle.memory.specs.declared.kinds.Kind.{Kind}
 use Rattle.memory.specs.declared.kinds.Kind.TheVariants.{Load}
 use Rattle.memory.specs.declared.records.Record.{Record}
@@ -26,6 +27,14 @@ pub record Run : Type 0 where
   pub store : ℕ → Bool
   pub addr : ℕ → ℕ
   pub value : ℕ → ℕ
+
+-- a is among xs
+abbrev pub has : List ℕ → ℕ → Bool
+has xs a = list_any (λ x. x == a) xs
+
+-- the model or the clock puts a before b
+abbrev pub must_precede : Run → ℕ → ℕ → Bool
+must_precede R a b = R.model a b || R.clock a b
 
 -- a is the number of a record of the run
 pub record Known (R : Run) (a : ℕ) : Type 0 where

@@ -1,6 +1,6 @@
 // Clocks.
-ghost use Rattle.std.specs.Prelude.{◌≡◌, ℕ, ◌≤◌, Bool, false};
-ghost use Rattle.memory.specs.Clocks.{below, never};
+ghost use Rattle.std.specs.Prelude.{◌≡◌, ℕ, Bool};
+ghost use Rattle.memory.specs.Clocks.{LawfulClock, below, never};
 ghost use Rattle.std.proofs.Common.{rules};
 
 // A clock says whether reading s of processor p is surely earlier than reading t of processor q.
@@ -15,7 +15,7 @@ pub trait Clock {
         ensures { result ≡ earlier self.now p s q t };
 
     // On one processor no reading is earlier than an equal or smaller one.
-    ghost forward: { (c : Self) (p s t : ℕ) → t ≤ s → earlier c p s p t ≡ false };
+    ghost forward: { (c : Self) → LawfulClock (earlier c) };
 }
 
 // One counter for all processors.

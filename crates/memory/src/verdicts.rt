@@ -11,6 +11,13 @@ pub enum Verdict {
     Exhausted,
 }
 
+// What a call that goes on for a while has done: how many lines it listed, or steps it made, and the verdict.
+#[derive(Clone, Copy)]
+pub struct Progress {
+    pub done: u64,
+    pub verdict: Option<Verdict>,
+}
+
 // A function, since `From` cannot be implemented for std's `Option`.
 pub fn verdict_number(verdict: Option<Verdict>) -> u8
     ensures { result ≡ verdict_number verdict }

@@ -5,12 +5,12 @@ ghost use Rattle.std.specs.Result.{result_err};
 ghost use Rattle.memory.specs.Admission.{judgement};
 ghost use Rattle.memory.specs.Runs.{run_of};
 ghost use Rattle.memory.specs.Settings.{setting_of};
-ghost use Rattle.case.specs.State.{opened as begun, permits, case_fault};
+ghost use Rattle.stages.specs.Stages.{permits};
+ghost use Rattle.case.specs.State.{opened as begun, case_fault};
 ghost use Rattle.case.specs.Calls.{opening, admitting, admit_by, numbered_by, sealing, sealed_verdict, sealed, AnswerClaims, AlwaysClaims};
 ghost use Rattle.case.specs.Views.{view};
 
 use crate::cases::{Case, Held};
-use crate::stages::{Call, Stage};
 use inference::lines::Lines;
 use memory::admission::judge;
 use memory::clocks::Clock;
@@ -21,6 +21,8 @@ use memory::records::Entry;
 use memory::refusals::{Fault, Layer, Refusal};
 use memory::settings::Setting;
 use memory::verdicts::Verdict;
+use search::searches::Search;
+use stages::{Call, Stage};
 use std::alloc::{AllocError, Global};
 
 impl Held {
@@ -53,6 +55,7 @@ impl Held {
         }
         self.records.clear();
         self.lines.clear();
+        self.search.clear();
         self.processors = processors;
         self.stage = Stage::Open;
         self.steps = 0;
@@ -119,6 +122,7 @@ impl<M: Model, C: Clock> Case<M, C> {
             records: Vec::with_capacity(heap, MOST_RECORDS)?,
             lines: Lines::new(heap)?,
             stage: Stage::Open,
+            search: Search::new(heap)?,
             steps: 0,
         };
         Ok(Case { setting, held })

@@ -6,12 +6,12 @@ ghost use Rattle.case.specs.Calls.{inferring, Inferred};
 ghost use Rattle.case.specs.Views.{view};
 
 use crate::cases::{Case, Held};
-use crate::stages::{Call, Progress, Stage};
 use memory::clocks::Clock;
 use memory::models::Model;
 use memory::refusals::Fault;
 use memory::settings::Setting;
-use memory::verdicts::Verdict;
+use memory::verdicts::{Progress, Verdict};
+use stages::{Call, Stage};
 
 impl Held {
     fn infer<M: Model, C: Clock>(

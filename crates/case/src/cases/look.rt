@@ -2,14 +2,15 @@
 ghost use Rattle.std.specs.Prelude.{◌≡◌, ◌-◌, ◌*◌, ◌≤◌, true, length};
 ghost use Rattle.memory.specs.Lawful.{Lawful};
 ghost use Rattle.inference.specs.Paired.{paired};
+ghost use Rattle.search.specs.Placing.{distinct};
 ghost use Rattle.case.specs.Views.{view};
 
 use crate::cases::Case;
-use crate::stages::Stage;
 use memory::clocks::Clock;
 use memory::lines::Line;
 use memory::models::Model;
 use memory::records::Record;
+use stages::Stage;
 
 impl<M: Model, C: Clock> Case<M, C> {
     pub fn processors(&self) -> u8
@@ -43,6 +44,22 @@ impl<M: Model, C: Clock> Case<M, C> {
         ensures { result ≡ (view self.now).stage }
     {
         self.held.stage
+    }
+
+    // The records that the search has placed, in their order. Whatever calls came before, they are different ones of the case's records.
+    pub fn placed(&self) -> &[u8]
+        ensures value { result.now ≡ (view self.now).standing.placed }
+        ensures apart { distinct (length (view self.now).records) result.now ≡ true }
+    {
+        let held = &self.held;
+        held.search.placed()
+    }
+
+    // The record above which the search looks for the next one, if there is one.
+    pub fn mark(&self) -> Option<u8>
+        ensures { result ≡ (view self.now).standing.mark }
+    {
+        self.held.search.mark()
     }
 
     // The total of steps since the opening.

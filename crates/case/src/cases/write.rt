@@ -59,7 +59,7 @@ impl<M: Model, C: Clock> Case<M, C> {
     {
         let held = &self.held;
         match held.stage.verdict() {
-            Some(Verdict::Order) => self.put_paper(out, Paper::Order(&[])),
+            Some(Verdict::Order) => self.put_paper(out, Paper::Order(self.placed())),
             Some(Verdict::Opposed) => self.put_paper(out, Paper::Opposed(self.lines())),
             Some(Verdict::Orphan(load)) => self.put_paper(out, Paper::Orphan(load)),
             Some(Verdict::Exhausted) | None => Err(held.fault(Refusal::Bare)),

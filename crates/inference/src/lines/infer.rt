@@ -72,7 +72,8 @@ impl Lines {
         }
     }
 
-    // Lists next lines until k are listed, none follows, or one is opposed to a listed one. Refused where there are more records than a run may have.
+    // Lists next lines until k are listed, none follows, or one is opposed to a listed one. Refused where there are more records than a
+    // run may have.
     pub fn infer<M: Model, C: Clock>(
         &mut self,
         setting: Setting<&M, &C>,

@@ -34,15 +34,6 @@ pub(super) fn has_third(rule: Rule) -> bool
 }
 
 impl<M: Model, C: Clock> Premises<'_, M, C> {
-    fn is_surely_earlier(&self, x: Record, y: Record) -> bool
-        ensures { result ≡ (setting_in self.now).earlier x.processor x.commit y.processor y.enter }
-    {
-        self.run
-            .setting
-            .clock
-            .surely_earlier(x.processor, x.commit, y.processor, y.enter)
-    }
-
     // The load reads the store of this number, another than y to that address, and it is listed before y, which has the number `second`.
     fn is_overwritten(&self, load: Record, second: u8, y: Record, store: u8) -> bool
         ensures { result ≡ (known (run_in self.now) store && overwrites (records_in self.now) (lines_in self.now) load second y store) }
@@ -81,7 +72,7 @@ impl<M: Model, C: Clock> Premises<'_, M, C> {
         first != second
             && (has_third(rule) || third == 0)
             && match rule {
-                Rule::Clock => self.is_surely_earlier(x, y),
+                Rule::Clock => self.run.is_surely_earlier(x, y),
                 Rule::Model => first < second && self.run.setting.keeps(x, y),
                 Rule::ReadsFrom => reads_from(y, x),
                 Rule::InitialRead => reads_initial(x, y),

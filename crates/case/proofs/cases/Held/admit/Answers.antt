@@ -1,7 +1,7 @@
 use Rattle.std.proofs.Common.{◌≡◌, None, arith}
 use Rattle.std.proofs.lemmas.Grind.{common_steps}
-use Rattle.case.specs.State.{permits}
-use Rattle.case.specs.declared.stages.Call.TheVariants.{Admit}
+use Rattle.stages.specs.Stages.{permits}
+use Rattle.stages.specs.declared.Call.TheVariants.{Admit}
 use Rattle.case.proofs.cases.Held.admit.Goals as goal
 
 pub returns-clause-answer : goal.returns-clause-answer

@@ -5,6 +5,9 @@ use Rattle.memory.proofs.Admitted.{admits_more, sized_more}
 use Rattle.inference.specs.Paired.{paired}
 use Rattle.inference.specs.Views.{lines_of}
 use Rattle.inference.proofs.Pairs.{paired_more}
+use Rattle.search.specs.Placing.{distinct}
+use Rattle.search.specs.Views.{standing_of}
+use Rattle.search.proofs.Distinct.{distinct_more}
 use Rattle.case.proofs.cases.Held.admit_lawful.Goals as goal
 
 pub invariant_of-self-inside : goal.invariant_of-self-inside
@@ -17,4 +20,5 @@ invariant_of-self-inside c =
     let lawful : admits self.processors [] more ≡ true = rw c.push_reserved.ensures.items (admits_more self.processors rs c.args.e r self.lawful j) in
     let sized : all_sized more ≡ true = rw c.push_reserved.ensures.items (sized_more self.processors rs c.args.e r self.sized j (search rules) (search rules)) in
     let pairs : paired (vec_len c.push_reserved.new.self) (lines_of self.lines) ≡ true = paired_more (vec_len self.records) _ (omega (arith, c.push_reserved.ensures.len)) (lines_of self.lines) self.pairs in
-    (search rules, (search rules, (self.opened, (lawful, (sized, (pairs, tt))))))
+    let apart : distinct (vec_len c.push_reserved.new.self) (standing_of self.search).placed ≡ true = distinct_more (vec_len self.records) _ (omega (arith, c.push_reserved.ensures.len)) (standing_of self.search).placed self.apart in
+    (search rules, (search rules, (self.opened, (lawful, (sized, (pairs, (apart, tt)))))))

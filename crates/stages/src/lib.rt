@@ -1,7 +1,9 @@
 // The stages of a case, and the calls that a stage lets through.
+#![tactic(auto)]
+
 ghost use Rattle.std.specs.Prelude.{◌≡◌};
 ghost use Rattle.std.specs.Result.{result_err};
-ghost use Rattle.case.specs.State.{permits, verdict_at};
+ghost use Rattle.stages.specs.Stages.{permits, verdict_at};
 
 use memory::refusals::Refusal;
 use memory::verdicts::Verdict;
@@ -19,13 +21,7 @@ pub enum Call {
     Admit,
     Infer,
     Seal,
-}
-
-// What a call that goes on for a while has done: how many lines it listed, and the verdict.
-#[derive(Clone, Copy)]
-pub struct Progress {
-    pub done: u64,
-    pub verdict: Option<Verdict>,
+    Search,
 }
 
 impl Stage {
@@ -35,9 +31,12 @@ impl Stage {
     {
         match (self, call) {
             (Stage::Open, Call::Admit | Call::Infer | Call::Seal) => Ok(()),
-            (Stage::Sealed, Call::Infer) => Ok(()),
+            (Stage::Open, Call::Search) => Err(Refusal::Unsealed),
+            (Stage::Sealed, Call::Infer | Call::Search) => Ok(()),
             (Stage::Sealed, Call::Admit | Call::Seal) => Err(Refusal::Sealed),
-            (Stage::Decided(_), Call::Admit | Call::Infer | Call::Seal) => Err(Refusal::Decided),
+            (Stage::Decided(_), Call::Admit | Call::Infer | Call::Seal | Call::Search) => {
+                Err(Refusal::Decided)
+            }
         }
     }
 
