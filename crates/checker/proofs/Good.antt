@@ -1,12 +1,13 @@
--- What every call keeps: records lawful, each line founded, no pair twice, and the verdict true. Assumes nothing.
-use Rattle.std.proofs.Common.{◌≡◌, ℕ, ◌+◌, Bool, true, false, [], ◌∷◌, ◌++◌, length, Some, None, Ok, Err, Option, Result, sym, refl, subst, arith, length-append}
-use Rattle.std.specs.Option.{option_map_or}
+-- What every call keeps: records lawful, each line founded, no pair twice, and what is known of the search. Assumes nothing.
+use Rattle.std.proofs.Common.{◌≡◌, ℕ, ◌+◌, Bool, true, false, List, [], ◌∷◌, ◌++◌, length, Some, None, Ok, Err, Option, Result, refl, subst, arith, length-append, ltb}
 use Rattle.memory.specs.declared.records.Entry.{Entry}
 use Rattle.memory.specs.declared.records.Record.{Record}
 use Rattle.memory.specs.declared.refusals.Refusal.{Refusal}
 use Rattle.memory.specs.declared.verdicts.Verdict.{Verdict}
+use Rattle.memory.specs.Clocks.{LawfulClock}
 use Rattle.memory.specs.Admission.{opens, judgement, admits}
 use Rattle.memory.specs.Legal.{Claims}
+use Rattle.memory.specs.Limits.{most_steps}
 use Rattle.memory.specs.Runs.{Setting, Run, run_of}
 use Rattle.memory.proofs.Admitted.{admits_more}
 use Rattle.inference.specs.Listing.{Listing, Lists, list_lines}
@@ -15,28 +16,63 @@ use Rattle.inference.proofs.Onward.{lists}
 use Rattle.inference.proofs.Opposed.{lists_founded, lists_opposed}
 use Rattle.inference.proofs.Pairs.{paired_more}
 use Rattle.inference.proofs.Room.{lists_paired}
-use Rattle.inference.proofs.Sound.{founded, founded_stays, opposed_none}
-use Rattle.case.specs.declared.stages.Call.TheVariants.{Admit, Infer, Seal}
-use Rattle.case.specs.declared.stages.Stage.{Stage}
-use Rattle.case.specs.declared.stages.Stage.TheVariants.{Open, Sealed, Decided}
-use Rattle.case.specs.State.{State, opened, with_record, permits, verdict_at}
-use Rattle.case.specs.Calls.{opening, open_if, admit_by, admit_if, admitting, stage_listed, with_lines, infer_if, inferring, sealed_verdict, sealed, seal_if, sealing}
+use Rattle.inference.proofs.Sound.{founded, founded_stays, lines_hold, opposed_none}
+use Rattle.search.specs.Placing.{Standing, fresh}
+use Rattle.search.specs.Steps.{Walk, walk}
+use Rattle.search.proofs.Underway.{Underway, Led, first_underway, underway_walk, irreflexive}
+use Rattle.stages.specs.declared.Call.TheVariants.{Admit, Infer, Seal, Search}
+use Rattle.stages.specs.declared.Stage.{Stage}
+use Rattle.stages.specs.declared.Stage.TheVariants.{Open, Sealed, Decided}
+use Rattle.stages.specs.Stages.{permits, verdict_at}
+use Rattle.case.specs.State.{State, opened, with_record}
+use Rattle.case.specs.Calls.{opening, open_if, admit_by, admit_if, admitting, stage_listed, with_lines, infer_if, inferring, sealed_verdict, sealed, seal_if, sealing, stage_after, search_within, search_if, searching}
 use Rattle.case.proofs.Sealed.{sealed_claims}
-use Rattle.checker.specs.History.{Invocation, begin, admit, infer, seal, write_run, write_slip, write_paper, after_call}
+use Rattle.checker.specs.History.{Invocation, begin, admit, infer, seal, search_on, write_run, write_slip, write_paper, after_call}
 use Rattle.checker.specs.Output.{StateClaims}
+
+-- what is known at each stage: no step was made, or the search is under way, or what the verdict claims is true
+abbrev pub Stands : Run → Stage → Standing → ℕ → Type 0
+Stands R Open t made = (t ≡ fresh) × (made ≡ 0)
+Stands R Sealed t made = Underway R t made
+Stands R (Decided v) t made = Claims R t.placed (Some v)
 
 -- what every call keeps
 pub record Good (S : Setting) (s : State) : Type 0 where
   pub lawful : admits s.processors [] s.records ≡ true
   pub reasons : founded (run_of S s.records) [] s.lines ≡ true
   pub pairs : paired (length s.records) s.lines ≡ true
-  pub verdict : StateClaims S s
+  pub stands : Stands (run_of S s.records) s.stage s.standing s.total
+
+-- where steps led to from a sealed case
+led_stands : (R : Run) (v : Option Verdict) (t : Standing) (made : ℕ) → Led R v t made → Stands R (stage_after v Sealed) t made
+led_stands R None t made h = h
+led_stands R (Some v) t made h = h
 
 module _ (S : Setting) where
+  -- a case that is sealed with no step made
+  first_stands : (rs : List Record) → Stands (run_of S rs) (stage_after (sealed_verdict rs) Sealed) fresh 0
+  first_stands [] = sealed_claims S []
+  first_stands (r ∷ rs) = by (sealed_verdict (r ∷ rs)) (sealed_claims S (r ∷ rs))
+    where
+      by : (v : Option Verdict) → Claims (run_of S (r ∷ rs)) [] v → Stands (run_of S (r ∷ rs)) (stage_after v Sealed) fresh 0
+      by None c = first_underway (run_of S (r ∷ rs)) (omega arith)
+      by (Some v) c = c
+
   pub good_opened : (p : ℕ) → Good S (opened p)
-  good_opened p = record { lawful = refl; reasons = refl; pairs = refl; verdict = tt }
+  good_opened p = record { lawful = refl; reasons = refl; pairs = refl; stands = (refl, refl) }
 
   module _ (s : State) (h : Good S s) where
+    stands_at : (g : Stage) → s.stage ≡ g → Stands (run_of S s.records) g s.standing s.total
+    stands_at g is = subst (λ x. Stands (run_of S s.records) x s.standing s.total) is h.stands
+
+    pub good_claims : StateClaims S s
+    good_claims = at s.stage h.stands
+      where
+        at : (g : Stage) → Stands (run_of S s.records) g s.standing s.total → Claims (run_of S s.records) s.standing.placed (verdict_at g)
+        at Open stands = tt
+        at Sealed stands = tt
+        at (Decided v) claims = claims
+
     good_open : (p : ℕ) → Good S (opening s p).state
     good_open p = by (opens p)
       where
@@ -52,7 +88,7 @@ module _ (S : Setting) where
           lawful = admits_more s.processors s.records e r h.lawful is;
           reasons = founded_stays S s.records (r ∷ []) s.lines h.reasons;
           pairs = paired_more (length s.records) (length (s.records ++ r ∷ [])) (omega (arith, longer)) s.lines h.pairs;
-          verdict = subst (λ g. Claims (run_of S (s.records ++ r ∷ [])) [] (verdict_at g)) (sym stage) tt;
+          stands = rw stage (stands_at Open stage);
         }
 
     good_admit : (e : Entry) → Good S (admitting s e).state
@@ -69,14 +105,14 @@ module _ (S : Setting) where
 
     -- lines that were listed, and the stage to which they lead
     good_lines : (k : ℕ) (l : Listing) → Lists (run_of S s.records) k s.lines l → Good S (with_lines s l)
-    good_lines k l is = record { lawful = h.lawful; reasons = still; pairs = lists_paired is (length s.records) (omega arith) h.pairs; verdict = by l.opposed refl }
+    good_lines k l is = record { lawful = h.lawful; reasons = still; pairs = lists_paired is (length s.records) (omega arith) h.pairs; stands = by l.opposed refl }
       where
         still : founded (run_of S s.records) [] l.lines ≡ true
         still = lists_founded is h.reasons
 
-        by : (b : Bool) → l.opposed ≡ b → Claims (run_of S s.records) [] (verdict_at (stage_listed b s.stage))
+        by : (b : Bool) → l.opposed ≡ b → Stands (run_of S s.records) (stage_listed b s.stage) s.standing s.total
         by true e = let (a, b, ab, ba) = lists_opposed is e in opposed_none S s.processors s.records h.lawful l.lines still a b ab ba
-        by false e = h.verdict
+        by false e = h.stands
 
     pub good_infer : (k : ℕ) → Good S (inferring S s k).state
     good_infer k = at s.stage
@@ -89,26 +125,49 @@ module _ (S : Setting) where
         at Sealed = good_lines k (list_lines R k s.lines) (lists R k s.lines)
         at (Decided v) = h
 
-    pub good_sealed : Good S (sealed s)
-    good_sealed = record { lawful = h.lawful; reasons = h.reasons; pairs = h.pairs; verdict = by (sealed_verdict s.records) (sealed_claims S s.records) }
-      where
-        by : (v : Option Verdict) → Claims (run_of S s.records) [] v → Claims (run_of S s.records) [] (verdict_at (option_map_or Decided v Sealed))
-        by None c = c
-        by (Some v) c = c
+    pub good_sealed : s.stage ≡ Open → Good S (sealed s)
+    good_sealed stage =
+        let none = stands_at Open stage in record { lawful = h.lawful; reasons = h.reasons; pairs = h.pairs; stands = rw none.0 (rw none.1 (first_stands s.records)) }
 
     good_seal : Good S (sealing s).state
-    good_seal = at s.stage
+    good_seal = at s.stage refl
       where
-        at : (g : Stage) → Good S (seal_if (permits g Seal) s).state
-        at Open = good_sealed
-        at Sealed = h
-        at (Decided v) = h
+        at : (g : Stage) → s.stage ≡ g → Good S (seal_if (permits g Seal) s).state
+        at Open is = good_sealed is
+        at Sealed is = h
+        at (Decided v) is = h
 
-    pub good_call : (c : Invocation) → Good S (after_call S s c)
-    good_call (begin p) = good_open p
-    good_call (admit e) = good_admit e
-    good_call (infer k) = good_infer k
-    good_call seal = good_seal
-    good_call (write_run out) = h
-    good_call (write_slip out) = h
-    good_call (write_paper out) = h
+    module _ (law : LawfulClock S.earlier) where
+      -- steps made in a sealed case, and the stage to which they lead
+      good_steps : s.stage ≡ Sealed → (k : ℕ) → let w = walk (run_of S s.records) s.lines k s.standing in Stands (run_of S s.records) (stage_after w.verdict s.stage) w.standing (s.total + w.count)
+      good_steps stage k =
+          let R : Run = run_of S s.records in
+          let w : Walk = walk R s.lines k s.standing in
+          let holds = lines_hold S s.processors s.records h.lawful s.lines h.reasons in
+          let led = underway_walk R s.lines (irreflexive S law s.processors s.records h.lawful) holds k s.standing s.total (stands_at Sealed stage) in
+          rw stage (led_stands R w.verdict w.standing (s.total + w.count) led)
+
+      pub good_search : (k : ℕ) → Good S (searching S s k).state
+      good_search k = at s.stage refl
+        where
+          w : Walk
+          w = walk (run_of S s.records) s.lines k s.standing
+
+          by : s.stage ≡ Sealed → (b : Bool) → Good S (search_within b w s).state
+          by stage true = h
+          by stage false = record { lawful = h.lawful; reasons = h.reasons; pairs = h.pairs; stands = good_steps stage k }
+
+          at : (g : Stage) → s.stage ≡ g → Good S (search_if (permits g Search) k w s).state
+          at Open is = h
+          at Sealed is = by is (ltb most_steps (s.total + k))
+          at (Decided v) is = h
+
+      pub good_call : (c : Invocation) → Good S (after_call S s c)
+      good_call (begin p) = good_open p
+      good_call (admit e) = good_admit e
+      good_call (infer k) = good_infer k
+      good_call seal = good_seal
+      good_call (search_on k) = good_search k
+      good_call (write_run out) = h
+      good_call (write_slip out) = h
+      good_call (write_paper out) = h

@@ -1,37 +1,55 @@
--- After every history of calls a case is sound. Assumes nothing.
-use Rattle.std.proofs.Common.{◌≡◌, ℕ, Bool, true, false, List, [], ◌∷◌, ◌++◌, length, Ok, Err, Result, sym, refl, ap, ◌∙◌, subst}
+-- After every history of calls a case is sound, and decided once enough steps were asked for. Assumes nothing.
+use Rattle.std.proofs.Common.{◌≡◌, ℕ, zero, suc, ◌+◌, ◌*◌, ◌<◌, ◌≤◌, Bool, true, false, List, [], ◌∷◌, ◌++◌, length, Some, None, Ok, Err, Option, Result, sym, refl, ap, ◌∙◌, subst, arith, ltb}
 use Rattle.memory.specs.declared.records.Entry.{Entry}
 use Rattle.memory.specs.declared.records.Record.{Record}
 use Rattle.memory.specs.declared.refusals.Refusal.{Refusal}
+use Rattle.memory.specs.declared.verdicts.Verdict.{Verdict}
+use Rattle.memory.specs.Clocks.{LawfulClock}
 use Rattle.memory.specs.Admission.{opens, judgement}
-use Rattle.memory.specs.Runs.{Setting, run_of}
+use Rattle.memory.specs.Limits.{most_steps}
+use Rattle.memory.specs.Runs.{Setting, Run, run_of}
 use Rattle.memory.proofs.Admitted.{judged, admits_join}
-use Rattle.inference.specs.Listing.{list_lines}
+use Rattle.inference.specs.Listing.{Listing, list_lines}
 use Rattle.inference.proofs.Pairs.{few_lines}
 use Rattle.inference.proofs.Sound.{founded_stays, lines_hold}
-use Rattle.case.specs.declared.stages.Call.TheVariants.{Admit, Infer, Seal}
-use Rattle.case.specs.declared.stages.Stage.{Stage}
-use Rattle.case.specs.declared.stages.Stage.TheVariants.{Open, Sealed, Decided}
-use Rattle.case.specs.State.{State, opened, permits}
-use Rattle.case.specs.Calls.{opening, open_if, admit_by, admit_if, admitting, infer_if, inferring, seal_if, sealing}
-use Rattle.checker.specs.History.{Invocation, begin, admit, infer, seal, write_run, write_slip, write_paper, after_call, after, Admitted, begun, record_in, added, admitted_by, admitted}
-use Rattle.checker.specs.Sound.{Sound, SoundHistories}
-use Rattle.checker.proofs.Good.{Good, good_opened, good_call}
+use Rattle.search.specs.Placing.{Standing}
+use Rattle.search.specs.Steps.{Walk, walk, F}
+use Rattle.search.proofs.Steps.{steps_is, steps_end}
+use Rattle.search.proofs.Underway.{underway_bound}
+use Rattle.stages.specs.declared.Call.TheVariants.{Admit, Infer, Seal, Search}
+use Rattle.stages.specs.declared.Stage.{Stage}
+use Rattle.stages.specs.declared.Stage.TheVariants.{Open, Sealed, Decided}
+use Rattle.stages.specs.Stages.{permits, verdict_at}
+use Rattle.case.specs.State.{State, opened}
+use Rattle.case.specs.Calls.{opening, open_if, admit_by, admit_if, admitting, stage_listed, with_lines, infer_if, inferring, seal_if, sealing, stage_after, search_within, search_if, searching}
+use Rattle.checker.specs.History.{Invocation, begin, admit, infer, seal, search_on, write_run, write_slip, write_paper, after_call, after, Reckoning, from_opening, begun, record_in, added, searched, reckoned_by, reckoned}
+use Rattle.checker.specs.Promise.{SoundAndDecidedInTime, AfterEveryHistory}
+use Rattle.checker.proofs.Good.{Stands, Good, good_opened, good_claims, good_call}
 
-good_after : (S : Setting) (s : State) → Good S s → (calls : List Invocation) → Good S (after S s calls)
-good_after S s h [] = h
-good_after S s h (c ∷ calls) = good_after S (after_call S s c) (good_call S s h c) calls
+good_after : (S : Setting) → LawfulClock S.earlier → (s : State) → Good S s → (calls : List Invocation) → Good S (after S s calls)
+good_after S law s h [] = h
+good_after S law s h (c ∷ calls) = good_after S law (after_call S s c) (good_call S s h law c) calls
 
--- the case holds what was admitted
-abbrev Holding : State → Admitted → Type 0
-Holding s a = (s.processors ≡ a.processors) × (s.records ≡ a.records)
+-- undecided only where all the steps that were asked for were made
+abbrev AllMade : Stage → ℕ → ℕ → Type 0
+AllMade g asked made = verdict_at g ≡ None → asked ≡ made
 
-module _ (S : Setting) (s : State) (a : Admitted) (h : Holding s a) where
+-- the case is as the caller reckons
+record Holding (s : State) (a : Reckoning) : Type 0 where
+  processors : s.processors ≡ a.processors
+  records : s.records ≡ a.records
+  total : s.total ≡ a.answered
+  made : AllMade s.stage a.asked s.total
+
+opened_holds : (p : ℕ) → Holding (opened p) (from_opening p)
+opened_holds p = record { processors = refl; records = refl; total = refl; made = λ none. refl }
+
+module _ (S : Setting) (s : State) (a : Reckoning) (h : Holding s a) where
   open_holds : (p : ℕ) → Holding (opening s p).state (begun a p (opening s p).answer)
   open_holds p = by (opens p)
     where
       by : (b : Bool) → Holding (open_if b s p).state (begun a p (open_if b s p).answer)
-      by true = (refl, refl)
+      by true = opened_holds p
       by false = h
 
   admit_holds : (e : Entry) → Holding (admitting s e).state (added a e (admitting s e).answer)
@@ -42,7 +60,7 @@ module _ (S : Setting) (s : State) (a : Admitted) (h : Holding s a) where
       by (Ok r) is =
           let t = judged s.processors s.records e r is in
           let one : r ∷ [] ≡ record_in e _ = sym (ap (record_in e) t.1.kind ∙ ap (λ x. x ∷ []) t.1.is) in
-          (h.0, (λ i. h.1 i ++ one i))
+          record { processors = h.processors; records = λ i. h.records i ++ one i; total = h.total; made = h.made }
 
       at : (g : Stage) → Holding (admit_if (permits g Admit) s e).state (added a e (admit_if (permits g Admit) s e).answer)
       at Open = by (judgement s.processors s.records e) refl
@@ -52,47 +70,90 @@ module _ (S : Setting) (s : State) (a : Admitted) (h : Holding s a) where
   infer_holds : (k : ℕ) → Holding (inferring S s k).state a
   infer_holds k = at s.stage
     where
-      at : (g : Stage) → Holding (infer_if (permits g Infer) (list_lines (run_of S s.records) k s.lines) s).state a
-      at Open = h
-      at Sealed = h
+      l : Listing
+      l = list_lines (run_of S s.records) k s.lines
+
+      made : (b : Bool) → AllMade (stage_listed b s.stage) a.asked s.total
+      made true none = absurd (cc none)
+      made false none = h.made none
+
+      listed : Holding (with_lines s l) a
+      listed = record { processors = h.processors; records = h.records; total = h.total; made = made l.opposed }
+
+      at : (g : Stage) → Holding (infer_if (permits g Infer) l s).state a
+      at Open = listed
+      at Sealed = listed
       at (Decided v) = h
 
   seal_holds : Holding (sealing s).state a
-  seal_holds = at s.stage
+  seal_holds = at s.stage refl
     where
-      at : (g : Stage) → Holding (seal_if (permits g Seal) s).state a
+      at : (g : Stage) → s.stage ≡ g → Holding (seal_if (permits g Seal) s).state a
+      at Open is = record { processors = h.processors; records = h.records; total = h.total; made = λ none. h.made (ap verdict_at is) }
+      at Sealed is = h
+      at (Decided v) is = h
+
+  search_holds : (k : ℕ) → Holding (searching S s k).state (searched a k (searching S s k).answer)
+  search_holds k = at s.stage
+    where
+      w : Walk
+      w = walk (run_of S s.records) s.lines k s.standing
+
+      made : (v : Option Verdict) → (v ≡ None → w.count ≡ k) → AllMade (stage_after v s.stage) (a.asked + k) (s.total + w.count)
+      made None ends none = omega (arith, h.made none, ends refl)
+      made (Some v) ends none = absurd (cc none)
+
+      by : (b : Bool) → Holding (search_within b w s).state (searched a k (search_within b w s).answer)
+      by true = h
+      by false = record { processors = h.processors; records = h.records; total = ap (λ n. n + w.count) h.total; made = made w.verdict (steps_end (steps_is (run_of S s.records) s.lines k s.standing)) }
+
+      at : (g : Stage) → Holding (search_if (permits g Search) k w s).state (searched a k (search_if (permits g Search) k w s).answer)
       at Open = h
-      at Sealed = h
+      at Sealed = by (ltb most_steps (s.total + k))
       at (Decided v) = h
 
-  call_holds : (c : Invocation) → Holding (after_call S s c) (admitted_by s a c)
+  call_holds : (c : Invocation) → Holding (after_call S s c) (reckoned_by S s a c)
   call_holds (begin p) = open_holds p
   call_holds (admit e) = admit_holds e
   call_holds (infer k) = infer_holds k
   call_holds seal = seal_holds
+  call_holds (search_on k) = search_holds k
   call_holds (write_run out) = h
   call_holds (write_slip out) = h
   call_holds (write_paper out) = h
 
-after_holds : (S : Setting) (s : State) (a : Admitted) → Holding s a → (calls : List Invocation) → Holding (after S s calls) (admitted S s a calls)
+after_holds : (S : Setting) (s : State) (a : Reckoning) → Holding s a → (calls : List Invocation) → Holding (after S s calls) (reckoned S s a calls)
 after_holds S s a h [] = h
-after_holds S s a h (c ∷ calls) = after_holds S (after_call S s c) (admitted_by s a c) (call_holds S s a h c) calls
+after_holds S s a h (c ∷ calls) = after_holds S (after_call S s c) (reckoned_by S s a c) (call_holds S s a h c) calls
 
--- a good case is sound
-sound : (S : Setting) (s : State) → Good S s → Sound S s (record { processors = s.processors; records = s.records })
-sound S s good = record {
+some_steps : (n : ℕ) → 0 < F n
+some_steps zero = omega arith
+some_steps (suc n) = omega arith
+
+-- with as many steps made as were asked for, these are too few unless the case is decided
+decides : (R : Run) (g : Stage) (t : Standing) (made asked : ℕ) → Stands R g t made → AllMade g asked made → 2 * F R.size ≤ asked → (v : Verdict) × (g ≡ Decided v)
+decides R Open t made asked (begun, none) all enough = absurd (omega (arith, none, all refl, enough, some_steps R.size))
+decides R Sealed t made asked underway all enough = absurd (omega (arith, underway_bound R t made underway, all refl, enough))
+decides R (Decided v) t made asked claims all enough = (v, refl)
+
+-- a good case is sound and decided
+sound_and_decided_in_time : (S : Setting) (s : State) → Good S s → (asked : ℕ) → AllMade s.stage asked s.total → SoundAndDecidedInTime S s (record { processors = s.processors; records = s.records; asked = asked; answered = s.total })
+sound_and_decided_in_time S s good asked made = record {
   processors = refl;
   records = refl;
   lines = λ more goes_on order legal.
       lines_hold S s.processors (s.records ++ more) (admits_join s.processors [] s.records more good.lawful goes_on) s.lines (founded_stays S s.records more s.lines good.reasons) order legal;
   few = few_lines (length s.records) s.lines good.pairs;
-  verdict = good.verdict;
+  verdict = good_claims S s good;
+  decided = decides (run_of S s.records) s.stage s.standing s.total asked good.stands made;
+  total = refl;
 }
 
-pub sound_histories : (S : Setting) → SoundHistories S
-sound_histories S before p ok calls =
-    let start : Admitted = record { processors = p; records = [] } in
+pub after_every_history : (S : Setting) → LawfulClock S.earlier → AfterEveryHistory S
+after_every_history S law before p ok calls =
     let s = after S (opened p) calls in
-    let held = after_holds S (opened p) start (refl, refl) calls in
-    subst (λ b. let t = (open_if b before p).state in Sound S (after S t calls) (admitted S t start calls)) (sym ok)
-    (subst (Sound S s) (λ i. record { processors = held.0 i; records = held.1 i }) (sound S s (good_after S (opened p) (good_opened S p) calls)))
+    let a = reckoned S (opened p) (from_opening p) calls in
+    let held = after_holds S (opened p) (from_opening p) (opened_holds p) calls in
+    let good = sound_and_decided_in_time S s (good_after S law (opened p) (good_opened S p) calls) a.asked held.made in
+    subst (λ b. let t = (open_if b before p).state in SoundAndDecidedInTime S (after S t calls) (reckoned S t (from_opening p) calls)) (sym ok)
+    (subst (SoundAndDecidedInTime S s) (λ i. record { processors = held.processors i; records = held.records i; asked = a.asked; answered = held.total i }) good)

@@ -1,3 +1,3 @@
 pub mod History
 pub mod Output
-pub mod Sound
+pub mod Promise

@@ -2,8 +2,8 @@
 #![tactic(auto)]
 
 ghost use Rattle.std.specs.Prelude.{◌≡◌, take, IfOk, slice_get};
-ghost use Rattle.checker.specs.Output.{verdict_bytes, output, answer_to, OutputClaims};
-ghost use Rattle.checker.specs.Sound.{SoundHistories};
+ghost use Rattle.checker.specs.Output.{concluded, verdict_bytes, output, answer_to, OutputClaims};
+ghost use Rattle.checker.specs.Promise.{AfterEveryHistory};
 ghost use Rattle.memory.specs.Limits.{input_limit};
 ghost use Rattle.memory.specs.Settings.{setting_of};
 ghost use Rattle.case.specs.Views.{view};
@@ -12,7 +12,7 @@ ghost use Rattle.wire.specs.Faults.{run_fault};
 
 use case::cases::Case;
 use memory::clocks::{Clock, GlobalClock};
-use memory::limits::INPUT_LIMIT;
+use memory::limits::{INPUT_LIMIT, PROGRAM_STEPS};
 use memory::models::{Godson, Model, Sc};
 use memory::settings::Setting;
 use std::alloc::{AllocError, Global};
@@ -22,6 +22,14 @@ use wire::writing::MOST_PAPER;
 
 // Room for a slip of 12 bytes and any paper, or for a notice.
 const OUTPUT_ROOM: usize = 12 + MOST_PAPER;
+
+// Lines are inferred to the end, then steps are searched. Either is refused where the case is decided, which then stays as it was.
+fn conclude<M: Model, C: Clock>(case: &mut Case<M, C>)
+    ensures { view case.new ≡ concluded (setting_of M.Model C.Clock case.old.setting) (view case.old) }
+{
+    let _ = case.infer(u64::MAX);
+    let _ = case.search(PROGRAM_STEPS);
+}
 
 // The slip, then the paper, if there is one. A case writes into lent bytes, which `room` is.
 fn write_verdict<'a, M: Model, C: Clock>(
@@ -43,7 +51,8 @@ fn write_refusal<'a>(fault: RunFault, room: &'a mut [u8; OUTPUT_ROOM]) -> &'a [u
 }
 
 // What is written for the bytes of a run, under a model and a clock; what its verdict claims of the records read is true. And after every
-// history of calls on a case under this model and clock, its lines and its verdict are sound.
+// history of calls on a case under this model and clock, its lines and its verdict are sound, and it is decided once enough steps were
+// asked for.
 pub fn check<M: Model + Drop, C: Clock + Drop>(
     heap: Global,
     setting: Setting<M, C>,
@@ -51,14 +60,13 @@ pub fn check<M: Model + Drop, C: Clock + Drop>(
 ) -> Result<Vec<u8>, AllocError>
     ensures bytes { IfOk result (λ v. v.items ≡ output (setting_of M.Model C.Clock setting) bytes.now) }
     ensures claims { OutputClaims (setting_of M.Model C.Clock setting) bytes.now }
-    ensures sound { SoundHistories (setting_of M.Model C.Clock setting) }
+    ensures histories { AfterEveryHistory (setting_of M.Model C.Clock setting) }
 {
     let mut case = Case::new(heap, setting)?;
     let mut room = [0; OUTPUT_ROOM];
     let answer = match case.load(bytes) {
         Ok(_) => {
-            // Refused where sealing decided the case, which then stays as it was.
-            let _ = case.infer(u64::MAX);
+            conclude(&mut case);
             write_verdict(&case, &mut room)
         }
         Err(fault) => write_refusal(fault, &mut room),

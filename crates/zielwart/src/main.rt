@@ -9,10 +9,12 @@ use std::process::ExitCode;
 use wire::tags::Tag;
 
 const USAGE: &str = "usage: zielwart < RUN > ANSWER
-Reads a run in bytes from standard input, of which the first 4,096 count, and writes its slip
-and its paper, if there is one, or a notice of the refusal, to standard output.
+Reads a run in bytes from standard input, of which the first 4,096 count. Infers what must come
+before what, and searches for a legal order, for 1,000,000 steps at most. Writes the slip and the
+paper, if there is one, or a notice of the refusal, to standard output.
 docs/FORMAT.md has the bytes; the program explain says the same in words.
-Exit status: 0 where a slip was written, 1 where a notice was, or where something failed.";
+Exit status: 0 where a slip was written, and after --help; 1 where a notice was, at any other
+argument, or where something failed.";
 
 // Writes the answer; a notice, which its first byte tells, is an error, so that the exit status tells of it.
 fn answer_input(rt: &HostRuntime) -> anyhow::Result<()> {
