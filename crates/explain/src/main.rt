@@ -1,11 +1,8 @@
 // Tells in plain words what the checker does with a run, from the first byte to the paper.
 #![tactic(auto)]
 
-mod finding;
-mod lines;
-mod papers;
 mod reports;
-mod words;
+mod steps;
 
 use crate::reports::{tell, tell_input};
 use anyhow::Context;
@@ -19,16 +16,17 @@ const USAGE: &str = "explain: tells in plain words what the checker does with a 
 usage: explain < RUN
        explain --help
 
-It reads the bytes of a run from standard input; only the first 4096 count.
+It reads the bytes of a run from standard input; only the first 4,096 count.
 Byte 4 marks the memory model: 3 is Godson, anything else is read under SC.
-The clock is Global.
+The clock is Global. The search makes 1,000,000 steps at most.
 
 It prints the head, each admitted record, each line that inference lists with
-its reason, the verdict, and the slip and the paper that the case writes; or the
+its reason, how many steps the search made and the order that it found, if it
+did, the verdict, and the slip and the paper that the case writes; or the
 refusal, and what stays in the case.
 
 Exit status: 0 where the run was loaded, and after --help; 1 where the run was
-refused, where standard input could not be read, and at any other argument.";
+refused, at any other argument, or where something failed.";
 
 // The two models are two types, so that it branches itself, as `checker::answer` does.
 fn explain(rt: &HostRuntime) -> anyhow::Result<ExitCode> {

@@ -1,11 +1,13 @@
-// What is told of a case: head, records, and the refusal, or the lines and the verdict.
+// What is told of a case: head, records, and the refusal, or the lines, the search and the verdict.
 ghost use Rattle.std.specs.Prelude.{◌≡◌, IfOk};
+ghost use Rattle.memory.specs.Settings.{setting_of};
+ghost use Rattle.case.specs.Calls.{inferring};
 ghost use Rattle.case.specs.Loading.{loading};
 ghost use Rattle.case.specs.State.{opened as begun};
+ghost use Rattle.case.specs.Views.{view};
+ghost use Rattle.checker.specs.Output.{to_the_end, concluded};
 
-use crate::lines::tell_lines;
-use crate::papers::tell_writing;
-use crate::words::{Claim, ClockName, ModelName, Operation, Records, VerdictName};
+use crate::steps::tell_search;
 use case::cases::Case;
 use checker::{counted, model_mark};
 use memory::clocks::{Clock, GlobalClock};
@@ -15,6 +17,9 @@ use memory::refusals::Fault;
 use memory::settings::Setting;
 use memory::verdicts::{Verdict, verdict_number};
 use std::io;
+use telling::lines::tell_lines;
+use telling::papers::tell_writing;
+use telling::words::{Claim, ClockName, Logged, ModelName, Records, VerdictName};
 use wire::faults::RunFault;
 
 // The heading, and the bytes that count.
@@ -57,7 +62,7 @@ pub fn tell<M: Model + Drop>(
     match answer {
         Ok(_) => {
             tell_run(rt, &case)?;
-            tell_inference(rt, &mut case)?;
+            tell_deciding(rt, &mut case)?;
             tell_verdict(rt, &case)?;
             tell_writing(rt, &case)?;
         }
@@ -83,17 +88,13 @@ fn tell_records(rt: &HostRuntime, records: &[Record]) -> io::Result<()> {
     println!(rt; "")?;
     println!(rt; "Records admitted: {count}")?;
     for (i, record) in records.iter().enumerate() {
-        tell_record(rt, i + 1, *record)?;
+        let logged = Logged {
+            number: i + 1,
+            record: *record,
+        };
+        println!(rt; "  {logged}")?;
     }
     Ok(())
-}
-
-fn tell_record(rt: &HostRuntime, number: usize, record: Record) -> io::Result<()> {
-    let processor = record.processor;
-    let operation = Operation(record);
-    let enter = record.enter;
-    let commit = record.commit;
-    println!(rt; "  record {number}: P{processor} {operation}, enter {enter}, commit {commit}")
 }
 
 fn tell_refused<M: Model, C: Clock>(
@@ -130,11 +131,23 @@ fn tell_fault(rt: &HostRuntime, fault: Fault) -> io::Result<()> {
     println!(rt; "  {refusal}")
 }
 
+// Infers to the end and searches, as the checker does, and tells what came of it.
+fn tell_deciding<M: Model, C: Clock>(rt: &HostRuntime, case: &mut Case<M, C>) -> io::Result<()>
+    ensures { IfOk result (λ _. view case.new ≡ concluded (setting_of M.Model C.Clock case.old.setting) (view case.old)) }
+{
+    tell_inference(rt, case)?;
+    tell_search(rt, case)
+}
+
 // Infers to the end, unless sealing decided the case, and tells the lines.
-fn tell_inference<M: Model, C: Clock>(rt: &HostRuntime, case: &mut Case<M, C>) -> io::Result<()> {
+fn tell_inference<M: Model, C: Clock>(rt: &HostRuntime, case: &mut Case<M, C>) -> io::Result<()>
+    ensures setting { case.new.setting ≡ case.old.setting }
+    ensures state { view case.new ≡ (inferring (setting_of M.Model C.Clock case.old.setting) (view case.old) to_the_end).state }
+{
+    let inferred = case.infer(u64::MAX);
     println!(rt; "")?;
     println!(rt; "The end was read, no byte follows it, and the case was sealed.")?;
-    let Ok(progress) = case.infer(u64::MAX) else {
+    let Ok(progress) = inferred else {
         return println!(rt; "Sealing decided it, so nothing was inferred.");
     };
     println!(rt; "Sealing left it undecided, so inference looked for what must come before what.")?;

@@ -60,16 +60,16 @@ fn tell_paper<M: Model, C: Clock>(
     let size = bytes.len();
     println!(rt; "  paper: {size} bytes, read back:")?;
     let mut reader = Reader::over(Text::Paper, bytes);
-    tell_fields(rt, case.records(), case.lines(), &mut reader)
+    tell_fields(rt, case, &mut reader)
 }
 
 // The fields up to the end, or to the first that cannot be read.
-fn tell_fields(
+fn tell_fields<M: Model, C: Clock>(
     rt: &HostRuntime,
-    records: &[Record],
-    lines: &[Line],
+    case: &Case<M, C>,
     reader: &mut Reader<'_>,
 ) -> io::Result<()> {
+    let lines = case.lines();
     let mut back = ReadBack { count: 0, start: 0 };
     loop {
         match reader.next() {
@@ -78,8 +78,8 @@ fn tell_fields(
                 back = back.with(part.place);
             }
             Ok(Field::Line(part)) => tell_line(rt, part)?,
-            Ok(Field::Order(part)) => tell_order(rt, part)?,
-            Ok(Field::Orphan(part)) => tell_orphan(rt, records, part)?,
+            Ok(Field::Order(part)) => tell_order_field(rt, case.placed(), part)?,
+            Ok(Field::Orphan(part)) => tell_orphan(rt, case.records(), part)?,
             Ok(Field::Record(part)) => tell_misfit(rt, "record", part)?,
             Ok(Field::End { place }) => return tell_end(rt, back, place, reader.finish()),
             Err(fault) => return tell_gap(rt, back, fault),
@@ -156,7 +156,8 @@ fn tell_line(rt: &HostRuntime, part: Part<'_>) -> io::Result<()> {
     )
 }
 
-fn tell_order(rt: &HostRuntime, part: Part<'_>) -> io::Result<()> {
+// The order that was found is told where it is found: here it is told that it stands in the paper.
+fn tell_order_field(rt: &HostRuntime, placed: &[u8], part: Part<'_>) -> io::Result<()> {
     let place = part.place;
     if part.content.is_empty() {
         return println!(rt; "    order at byte {place}: empty, for there are no records");
@@ -165,7 +166,12 @@ fn tell_order(rt: &HostRuntime, part: Part<'_>) -> io::Result<()> {
     for number in part.content {
         print!(rt; " {number}")?;
     }
-    println!(rt; "")
+    let compared = if part.content == placed {
+        "the order above"
+    } else {
+        "which is not the order above"
+    };
+    println!(rt; ", {compared}")
 }
 
 fn tell_orphan(rt: &HostRuntime, records: &[Record], part: Part<'_>) -> io::Result<()> {

@@ -1,8 +1,10 @@
-// The store that a load reads, and the line that a line is opposed to.
+// What lines and orders leave unsaid: the store that a load reads, and the first line that is opposed to a line.
+#![tactic(auto)]
+
 ghost use Rattle.std.specs.Prelude.{◌≡◌, length};
 ghost use Rattle.memory.specs.Reading.{Least};
 ghost use Rattle.inference.specs.Rules.{has_pair};
-ghost use Rattle.explain.specs.Finding.{read_by, opposed_to};
+ghost use Rattle.finding.specs.Finding.{read_by, opposed_to};
 
 use memory::lines::Line;
 use memory::reading::reads_from;

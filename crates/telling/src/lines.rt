@@ -1,7 +1,7 @@
 // The lines that inference lists, each with its reason.
-use crate::finding::{opposed_line, source_of};
 use crate::words::ModelName;
 use case::cases::Case;
+use finding::{opposed_line, source_of};
 use memory::clocks::Clock;
 use memory::lines::{Line, Rule};
 use memory::models::Model;

@@ -22,6 +22,43 @@ impl fmt::Display for Operation {
     }
 }
 
+// A record with its number, as it was logged.
+#[derive(Clone, Copy)]
+pub struct Logged {
+    pub number: usize,
+    pub record: Record,
+}
+
+impl fmt::Display for Logged {
+    fn fmt<W: fmt::Write>(&self, f: &mut fmt::Formatter<W>) -> fmt::Result {
+        let Logged { number, record } = *self;
+        let processor = record.processor;
+        let operation = Operation(record);
+        let (enter, commit) = (record.enter, record.commit);
+        write!(
+            f,
+            "record {number}: P{processor} {operation}, enter {enter}, commit {commit}"
+        )
+    }
+}
+
+// Where a load's value in a legal order is from: the store with a number or, where it reads none, the start. Other records read nothing.
+#[derive(Clone, Copy)]
+pub struct Source {
+    pub record: Record,
+    pub store: Option<usize>,
+}
+
+impl fmt::Display for Source {
+    fn fmt<W: fmt::Write>(&self, f: &mut fmt::Formatter<W>) -> fmt::Result {
+        match (self.record.kind, self.store) {
+            (Kind::Load, Some(store)) => write!(f, "; reads the store {store}"),
+            (Kind::Load, None) => f.write_str("; finds the value at the start"),
+            _ => Ok(()),
+        }
+    }
+}
+
 // So many records.
 #[derive(Clone, Copy)]
 pub struct Records(pub usize);
@@ -93,7 +130,8 @@ impl fmt::Display for Claim {
                 "The run has no legal order: two records would each have to come before the other.",
             Some(Verdict::Orphan(_)) =>
                 "The run has no legal order: a load read what nobody wrote.",
-            Some(Verdict::Exhausted) => "The run has no legal order: the search tried them all.",
+            Some(Verdict::Exhausted) =>
+                "The run has no legal order: the search has gone through everything.",
         })
     }
 }
