@@ -1,10 +1,7 @@
 // Which records a case takes, and which processors.
-use crate::tools::{Row, SC, ScCase, admit_rows, entry, told};
+use crate::tools::{LIMIT, Row, SC, ScCase, admit_rows, entry, told};
 use std::process::Abort;
 use std::test::Fail;
-
-// 2^62
-const LIMIT: u64 = 4611686018427387904;
 
 // In a run of two processors.
 const BORDERS: [Row; 26] = [

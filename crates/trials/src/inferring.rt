@@ -1,57 +1,30 @@
 // Which lines a case infers, in which order, what they decide, and the paper of opposed ones.
 use crate::tools::{
-    ALL, EMPTY, MESSAGE, Numbers, ORPHAN, Refused, Row, SC, ScCase, admit_rows, are_lines, entry,
-    numbers, told,
+    ALL, BROKEN, Done, EMPTY, GODSON, MESSAGE, Numbers, ORPHAN, Row, SC, SC_NO_CLOCK, SENDING,
+    STALE, ScCase, admit_rows, are_lines, entry, inferred, numbers, sealed, told,
 };
 use crate::writing::{OLD, is_old};
 use case::cases::Case;
-use memory::clocks::{Clock, GlobalClock, NoClock};
+use memory::clocks::Clock;
 use memory::lines::Line;
-use memory::models::{Godson, Model, Sc};
-use memory::settings::Setting;
+use memory::models::Model;
 use memory::verdicts::Verdict;
 use std::process::Abort;
 use std::test::Fail;
-
-const SC_NO_CLOCK: Setting<Sc, NoClock> = Setting {
-    model: Sc,
-    clock: NoClock,
-};
-
-const GODSON: Setting<Godson, GlobalClock> = Setting {
-    model: Godson,
-    clock: GlobalClock,
-};
-
-// How many lines were listed and the verdict, or the refusal.
-type Inferred = Result<(u64, Option<Verdict>), Refused>;
-
-const BROKEN: Option<Verdict> = Some(Verdict::Opposed);
-
-fn inferred<M: Model, C: Clock>(case: &mut Case<M, C>, k: u64) -> Inferred {
-    told(case.infer(k)).map(|p| (p.done, p.verdict))
-}
 
 // Inferring k answers this, and the case then has these lines.
 fn infers<M: Model, C: Clock>(
     rt: &impl Abort,
     case: &mut Case<M, C>,
     k: u64,
-    want: Inferred,
+    want: Done,
     lines: &[Numbers],
 ) {
     assert_eq!(rt; inferred(case, k), want);
     are_lines(rt, case.lines(), lines);
 }
 
-// The records of the message run, and its lines: the last says that 1 comes before 4, and the fourth the opposite.
-const SENDING: [Row; 4] = [
-    ((0, 2, 16, 1, 10, 90), Ok(1)),
-    ((0, 2, 32, 1, 10, 90), Ok(2)),
-    ((1, 1, 32, 1, 10, 90), Ok(3)),
-    ((1, 1, 16, 0, 10, 90), Ok(4)),
-];
-
+// The lines of the message run: the last says that 1 comes before 4, and the fourth the opposite.
 const SENT: [Numbers; 6] = [
     (2, 1, 2, 0),
     (2, 3, 4, 0),
@@ -153,27 +126,14 @@ fn under_godson_the_message_run_has_six_other_lines_and_no_verdict(
     Ok(())
 }
 
-// On three processors: two stores and a load of the first, each done before the next begins.
-const STALE: [Row; 3] = [
-    ((0, 2, 16, 1, 0, 10), Ok(1)),
-    ((1, 2, 16, 2, 20, 30), Ok(2)),
-    ((2, 1, 16, 1, 40, 50), Ok(3)),
-];
-
 #[test]
 fn a_load_of_a_stale_value_is_opposed_only_where_the_clock_speaks(
     rt: HostRuntime,
 ) -> Result<(), Fail> {
-    let mut case = ScCase::new(rt.alloc(), SC)?;
-    assert_eq!(rt; told(case.open(3)), Ok(()));
-    admit_rows(&rt, &mut case, &STALE);
-    assert_eq!(rt; told(case.seal()), Ok(None));
+    let mut case = sealed(&rt, SC, 3, &STALE)?;
     let want = [(1, 1, 2, 0), (1, 1, 3, 0), (1, 2, 3, 0), (5, 2, 1, 3)];
     infers(&rt, &mut case, ALL, Ok((4, BROKEN)), &want);
-    let mut case = Case::new(rt.alloc(), SC_NO_CLOCK)?;
-    assert_eq!(rt; told(case.open(3)), Ok(()));
-    admit_rows(&rt, &mut case, &STALE);
-    assert_eq!(rt; told(case.seal()), Ok(None));
+    let mut case = sealed(&rt, SC_NO_CLOCK, 3, &STALE)?;
     infers(&rt, &mut case, ALL, Ok((1, None)), &[(3, 1, 3, 0)]);
     Ok(())
 }

@@ -14,7 +14,9 @@ mod models;
 #[cfg(test)]
 mod papers;
 #[cfg(test)]
-mod stages;
+mod sealing;
+#[cfg(test)]
+mod searching;
 #[cfg(test)]
 mod tools;
 #[cfg(test)]

@@ -1,9 +1,9 @@
-// Fields as the reader hands them on, and bytes that no case writes yet.
+// Fields of a paper as the reader hands them on, and the bytes of a notice.
 use memory::refusals::{Fault, Layer, Refusal};
 use std::process::Abort;
 use wire::faults::ByteFault;
 use wire::fields::{Field, Part, Reader, Text};
-use wire::writing::{Paper, PaperHead, write_notice, write_paper};
+use wire::writing::write_notice;
 
 fn part(place: usize, content: &[u8]) -> Part<'_> {
     Part { place, content }
@@ -74,29 +74,15 @@ fn a_paper_has_no_field_of_a_run_and_no_end_with_content(rt: HostRuntime) {
 }
 
 #[test]
-fn notices_and_orders_are_these_bytes(rt: HostRuntime) {
+fn a_notice_is_these_bytes_and_the_rest_is_kept(rt: HostRuntime) {
     let twin = Fault {
         refusal: Refusal::Twin,
         layer: Layer::Content,
         place: 0x01020327,
     };
-    let mut out = [0xaa; 16];
+    let mut out = [0xaa; 10];
     assert!(rt; write_notice(&mut out[0..8], twin).is_err());
-    assert_eq!(rt; &out[..], &[0xaa; 16][..]);
+    assert_eq!(rt; &out[..], &[0xaa; 10][..]);
     assert_eq!(rt; write_notice(&mut out, twin).ok(), Some(9));
-    assert_eq!(rt; &out[0..10], &[0x1e, 0, 6, 12, 2, 1, 2, 3, 0x27, 0xaa][..]);
-    let head = PaperHead {
-        model: 3,
-        clock: 1,
-        records: 3,
-    };
-    assert!(rt; write_paper(&mut out[0..15], head, Paper::Order(&[2, 3, 1])).is_err());
-    assert_eq!(rt;
-        write_paper(&mut out, head, Paper::Order(&[2, 3, 1])).ok(),
-        Some(16)
-    );
-    assert_eq!(rt;
-        &out[..],
-        &[0x10, 0, 4, 1, 3, 1, 3, 0x12, 0, 3, 2, 3, 1, 0x1f, 0, 0][..]
-    );
+    assert_eq!(rt; &out[..], &[0x1e, 0, 6, 12, 2, 1, 2, 3, 0x27, 0xaa][..]);
 }

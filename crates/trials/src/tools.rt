@@ -1,11 +1,13 @@
 // What the tests share.
 use case::cases::Case;
-use memory::clocks::{Clock, GlobalClock};
+use memory::clocks::{Clock, GlobalClock, NoClock};
 use memory::lines::Line;
-use memory::models::{Model, Sc};
+use memory::models::{Godson, Model, Sc};
 use memory::records::Entry;
 use memory::refusals::Fault;
 use memory::settings::Setting;
+use memory::verdicts::{Progress, Verdict};
+use std::alloc::{AllocError, AllocGlobal};
 use std::process::Abort;
 
 pub type ScCase = Case<Sc, GlobalClock>;
@@ -14,6 +16,19 @@ pub const SC: Setting<Sc, GlobalClock> = Setting {
     model: Sc,
     clock: GlobalClock,
 };
+
+pub const SC_NO_CLOCK: Setting<Sc, NoClock> = Setting {
+    model: Sc,
+    clock: NoClock,
+};
+
+pub const GODSON: Setting<Godson, GlobalClock> = Setting {
+    model: Godson,
+    clock: GlobalClock,
+};
+
+// 2^62: no reading reaches it, and no total of steps passes it.
+pub const LIMIT: u64 = 4611686018427387904;
 
 // A refusal's number, its layer's number, and its place: what a notice says, which the tests pin.
 pub type Refused = (u8, u8, usize);
@@ -41,6 +56,21 @@ pub const ORPHAN: [u8; 75] = [
 ];
 
 pub const EMPTY: [u8; 9] = [0x01, 0, 3, 2, 1, 1, 0x03, 0, 0];
+
+// The records of the message run.
+pub const SENDING: [Row; 4] = [
+    ((0, 2, 16, 1, 10, 90), Ok(1)),
+    ((0, 2, 32, 1, 10, 90), Ok(2)),
+    ((1, 1, 32, 1, 10, 90), Ok(3)),
+    ((1, 1, 16, 0, 10, 90), Ok(4)),
+];
+
+// On three processors: two stores and a load of the first, each done before the next begins.
+pub const STALE: [Row; 3] = [
+    ((0, 2, 16, 1, 0, 10), Ok(1)),
+    ((1, 2, 16, 2, 20, 30), Ok(2)),
+    ((2, 1, 16, 1, 40, 50), Ok(3)),
+];
 
 // What a call answers, or the numbers of its refusal.
 pub fn told<T: Drop, E: Into<Fault> + Drop>(r: Result<T, E>) -> Result<T, Refused> {
@@ -77,6 +107,47 @@ pub fn admit_rows<M: Model, C: Clock>(rt: &impl Abort, case: &mut Case<M, C>, ro
         assert_eq!(rt; told(case.admit(e)), want, "row {i}");
     }
 }
+
+// Opens a case of so many processors, admits the rows and seals it, which leaves it undecided.
+pub fn seal_rows<M: Model, C: Clock>(
+    rt: &impl Abort,
+    case: &mut Case<M, C>,
+    processors: u8,
+    rows: &[Row],
+) {
+    assert_eq!(rt; told(case.open(processors)), Ok(()));
+    admit_rows(rt, case, rows);
+    assert_eq!(rt; told(case.seal()), Ok(None));
+}
+
+// A new case of so many processors with the rows, sealed and undecided.
+pub fn sealed<M: Model + Drop, C: Clock + Drop>(
+    rt: &(impl Abort + AllocGlobal),
+    setting: Setting<M, C>,
+    processors: u8,
+    rows: &[Row],
+) -> Result<Case<M, C>, AllocError> {
+    let mut case = Case::new(rt.alloc(), setting)?;
+    seal_rows(rt, &mut case, processors, rows);
+    Ok(case)
+}
+
+// How many lines were listed or steps made, and the verdict; or the refusal.
+pub type Done = Result<(u64, Option<Verdict>), Refused>;
+
+fn done(r: Result<Progress, Fault>) -> Done {
+    told(r).map(|p| (p.done, p.verdict))
+}
+
+pub fn inferred<M: Model, C: Clock>(case: &mut Case<M, C>, k: u64) -> Done {
+    done(case.infer(k))
+}
+
+pub fn searched<M: Model, C: Clock>(case: &mut Case<M, C>, k: u64) -> Done {
+    done(case.search(k))
+}
+
+pub const BROKEN: Option<Verdict> = Some(Verdict::Opposed);
 
 // More lines than any run has.
 pub const ALL: u64 = u64::MAX;
