@@ -1,6 +1,7 @@
 -- What each call on a case answers, and the case after it, for every case and every argument. Assumes nothing.
 use Rattle.std.specs.Prelude.{◌≡◌, ℕ, ◌+◌, ◌<◌, ◌≤◌, Bool, true, false, List, [], ◌∷◌, ◌++◌, length, drop, Some, None, Ok, Err, Option, Result, nat_lt}
-use Rattle.std.specs.Option.{option_map, option_map_or}
+use Rattle.std.specs.Bool.{then_some}
+use Rattle.std.specs.Option.{option_map}
 use Rattle.memory.specs.declared.lines.Line.{Line}
 use Rattle.memory.specs.declared.records.Entry.{Entry}
 use Rattle.memory.specs.declared.records.Record.{Record}
@@ -22,8 +23,8 @@ use Rattle.search.specs.Views.{walk_to}
 use Rattle.wire.specs.Bytes.{run_bytes, slip_bytes, paper_bytes, order_body, lines_body, orphan_body}
 use Rattle.stages.specs.declared.Call.TheVariants.{Admit, Infer, Seal, Search}
 use Rattle.stages.specs.declared.Stage.{Stage}
-use Rattle.stages.specs.declared.Stage.TheVariants.{Sealed, Decided}
-use Rattle.stages.specs.Stages.{permits, verdict_at}
+use Rattle.stages.specs.declared.Stage.TheVariants.{Sealed}
+use Rattle.stages.specs.Stages.{permits, stage_after, verdict_at}
 use Rattle.case.specs.State.{State, opened, with_record, with_stage, case_fault}
 
 pub record Outcome (A : Type 0) : Type 0 where
@@ -61,8 +62,7 @@ admitting s e = admit_if (permits s.stage Admit) s e
 
 -- Inferring lists next lines. Opposed ones decide the case, open or sealed.
 abbrev pub stage_listed : Bool → Stage → Stage
-stage_listed true g = Decided Opposed
-stage_listed false g = g
+stage_listed opposed g = stage_after (then_some opposed Opposed) g
 
 abbrev pub with_lines : State → Listing → State
 with_lines s l = record { processors = s.processors; records = s.records; lines = l.lines; stage = stage_listed l.opposed s.stage; standing = s.standing; total = s.total }
@@ -86,9 +86,6 @@ pub record Inferred (R : Run) (k : ℕ) (s t : State) (p : Progress) : Type 0 wh
   pub out : Out R k (record { count = p.done; lines = t.lines; opposed = opposed })
 
 -- Searching makes steps. An order that is found, or a search that is exhausted, decides the case.
-abbrev pub stage_after : Option Verdict → Stage → Stage
-stage_after verdict g = option_map_or Decided verdict g
-
 abbrev pub with_steps : State → Walk → State
 with_steps s w = record { processors = s.processors; records = s.records; lines = s.lines; stage = stage_after w.verdict s.stage; standing = w.standing; total = s.total + w.count }
 

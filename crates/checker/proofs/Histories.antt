@@ -19,9 +19,9 @@ use Rattle.search.proofs.Underway.{underway_bound}
 use Rattle.stages.specs.declared.Call.TheVariants.{Admit, Infer, Seal, Search}
 use Rattle.stages.specs.declared.Stage.{Stage}
 use Rattle.stages.specs.declared.Stage.TheVariants.{Open, Sealed, Decided}
-use Rattle.stages.specs.Stages.{permits, verdict_at}
+use Rattle.stages.specs.Stages.{permits, stage_after, verdict_at}
 use Rattle.case.specs.State.{State, opened}
-use Rattle.case.specs.Calls.{opening, open_if, admit_by, admit_if, admitting, stage_listed, with_lines, infer_if, inferring, seal_if, sealing, stage_after, search_within, search_if, searching}
+use Rattle.case.specs.Calls.{opening, open_if, admit_by, admit_if, admitting, stage_listed, with_lines, infer_if, inferring, seal_if, sealing, search_within, search_if, searching}
 use Rattle.checker.specs.History.{Invocation, begin, admit, infer, seal, search_on, write_run, write_slip, write_paper, after_call, after, Reckoning, from_opening, begun, record_in, added, searched, reckoned_by, reckoned}
 use Rattle.checker.specs.Promise.{SoundAndDecidedInTime, AfterEveryHistory}
 use Rattle.checker.proofs.Good.{Stands, Good, good_opened, good_claims, good_call}

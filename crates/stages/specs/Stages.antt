@@ -1,5 +1,6 @@
--- Which calls a stage lets through, and the verdict at a stage. Assumes nothing.
+-- Which calls a stage lets through, to which stage a verdict leads, and the verdict at a stage. Assumes nothing.
 use Rattle.std.specs.Prelude.{Some, None, Option}
+use Rattle.std.specs.Option.{option_map_or}
 use Rattle.memory.specs.declared.refusals.Refusal.{Refusal}
 use Rattle.memory.specs.declared.refusals.Refusal.TheVariants as refuse
 use Rattle.memory.specs.declared.verdicts.Verdict.{Verdict}
@@ -22,6 +23,10 @@ permits (Decided v) Admit = Some refuse.Decided
 permits (Decided v) Infer = Some refuse.Decided
 permits (Decided v) Seal = Some refuse.Decided
 permits (Decided v) Search = Some refuse.Decided
+
+-- the stage that a verdict leads to, if there is one
+abbrev pub stage_after : Option Verdict → Stage → Stage
+stage_after verdict g = option_map_or Decided verdict g
 
 abbrev pub verdict_at : Stage → Option Verdict
 verdict_at Open = None

@@ -3,7 +3,7 @@
 
 ghost use Rattle.std.specs.Prelude.{◌≡◌};
 ghost use Rattle.std.specs.Result.{result_err};
-ghost use Rattle.stages.specs.Stages.{permits, verdict_at};
+ghost use Rattle.stages.specs.Stages.{permits, stage_after, verdict_at};
 
 use memory::refusals::Refusal;
 use memory::verdicts::Verdict;
@@ -38,6 +38,13 @@ impl Stage {
                 Err(Refusal::Decided)
             }
         }
+    }
+
+    // The stage that a verdict leads to, if there is one.
+    pub fn after(self, verdict: Option<Verdict>) -> Stage
+        ensures { result ≡ stage_after verdict self }
+    {
+        verdict.map_or(self, Stage::Decided)
     }
 
     // The verdict, or none while the case is not decided.

@@ -95,7 +95,7 @@ impl Held {
         ensures state { self.new ≡ sealed self.old }
     {
         let verdict = self.verdict_sealed();
-        self.stage = verdict.map_or(Stage::Sealed, Stage::Decided);
+        self.stage = Stage::Sealed.after(verdict);
         verdict
     }
 

@@ -11,7 +11,7 @@ use memory::models::Model;
 use memory::refusals::Fault;
 use memory::settings::Setting;
 use memory::verdicts::{Progress, Verdict};
-use stages::{Call, Stage};
+use stages::Call;
 
 impl Held {
     fn infer<M: Model, C: Clock>(
@@ -25,8 +25,8 @@ impl Held {
     {
         self.permitted(Call::Infer)?;
         let listed = self.lines.infer(setting, &self.records, k).unwrap();
-        let decided = listed.opposed.then_some(Verdict::Opposed);
-        self.stage = decided.map_or(self.stage, Stage::Decided);
+        let verdict = listed.opposed.then_some(Verdict::Opposed);
+        self.stage = self.stage.after(verdict);
         Ok(Progress {
             done: listed.count,
             verdict: self.stage.verdict(),

@@ -13,7 +13,7 @@ use memory::models::Model;
 use memory::refusals::{Fault, Refusal};
 use memory::settings::Setting;
 use memory::verdicts::Progress;
-use stages::{Call, Stage};
+use stages::Call;
 
 impl Held {
     fn search<M: Model, C: Clock>(
@@ -31,7 +31,7 @@ impl Held {
         }
         let run = Run::new(setting, &self.records).unwrap();
         let progress = self.search.make_steps(&run, self.lines.as_slice(), k);
-        self.stage = progress.verdict.map_or(self.stage, Stage::Decided);
+        self.stage = self.stage.after(progress.verdict);
         self.steps += progress.done;
         Ok(progress)
     }
