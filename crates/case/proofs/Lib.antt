@@ -1,7 +1,9 @@
 pub mod Exits
 pub mod Listed
 pub mod Loads
+pub mod More
 pub mod Papers
 pub mod Progress
 pub mod Reload
+pub mod Said
 pub mod Sealed

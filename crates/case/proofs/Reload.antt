@@ -8,12 +8,13 @@ use Rattle.memory.specs.Limits.{reading_limit}
 use Rattle.memory.proofs.Admitted.{judged, admits_again}
 use Rattle.wire.specs.Bytes.{field, all_of, digits, number_on, entry_bytes, entry_in, record_field, run_bytes}
 use Rattle.wire.specs.Fields.{whole, entry_of}
+use Rattle.wire.specs.Said.{entry_read}
 use Rattle.wire.proofs.Digits.{digits_back}
 use Rattle.wire.proofs.Found.{wholes, run_found}
 use Rattle.wire.proofs.InOrder.{records_long}
-use Rattle.case.specs.State.{State, opened}
+use Rattle.case.specs.State.{State, holding}
 use Rattle.case.specs.Calls.{sealed, sealed_verdict}
-use Rattle.case.specs.Loading.{Loaded, load_entry, load_fields, loading, ended_as, Reloads}
+use Rattle.case.specs.Loading.{Loaded, load_said, load_fields, loading, ended_as, Reloads}
 
 -- the bytes of a record say what was logged
 entry_back : (r : Record) → r.address < 256 ^ 4 → r.value < 256 ^ 8 → r.enter < 256 ^ 8 → r.commit < 256 ^ 8 → entry_in (entry_bytes (logged r)) ≡ logged r
@@ -24,13 +25,9 @@ entry_back r a v e c =
     let c' : number_on 0 (digits 8 r.commit) ≡ r.commit = digits_back 8 r.commit c in
     λ i. record { processor = r.processor; kind = kind_number r.kind; address = a' i; value = v' i; enter = e' i; commit = c' i }
 
--- an open case of p processors with the records rs
-abbrev holding : ℕ → List Record → State
-holding p rs = record { processors = p; records = rs; lines = []; stage = (opened p).stage; standing = (opened p).standing; total = 0 }
-
-record_loads : (p at : ℕ) (rs : List Record) (r : Record) (rest : State → Loaded) → is_ok (judgement p rs (logged r)) ≡ true → (ltb r.address 4294967296 && ltb r.value 18446744073709551616) ≡ true →
-    load_entry (entry_of at (entry_bytes (logged r))) at (holding p rs) rest ≡ rest (holding p (rs ++ r ∷ []))
-record_loads p at rs r rest ok sz =
+record_loads : (p at next : ℕ) (rs : List Record) (r : Record) (rest : State → Loaded) → is_ok (judgement p rs (logged r)) ≡ true → (ltb r.address 4294967296 && ltb r.value 18446744073709551616) ≡ true →
+    load_said (entry_read at (entry_of at (entry_bytes (logged r)))) next (holding p rs) rest ≡ rest (holding p (rs ++ r ∷ []))
+record_loads p at next rs r rest ok sz =
     let j = admits_again p rs r ok in
     let early = or_parts (leb reading_limit r.enter) (leb reading_limit r.commit) (judged p rs (logged r) r j).1.early in
     let size = and_parts (ltb r.address 4294967296) (ltb r.value 18446744073709551616) sz in
@@ -42,7 +39,7 @@ fields_load : (p at : ℕ) (rs more : List Record) → admits p rs more ≡ true
     load_fields (holding p rs) at (wholes more ++ whole 3 [] ∷ []) ≡ ended_as (holding p (rs ++ more)) (Ok (at + 33 * length more + 3))
 unfolding load_fields
 fields_load p at rs [] adm sz =
-    let end : at + 3 ≡ at + 33 * 0 + 3 = omega arith in
+    let end : at + 3 + 0 ≡ at + 33 * 0 + 3 = omega arith in
     let all = sym (append-nil rs) in
     λ i. ended_as (holding p (all i)) (Ok (end i))
 fields_load p at rs (r ∷ more) adm sz =
@@ -50,7 +47,7 @@ fields_load p at rs (r ∷ more) adm sz =
     let b = and_parts (ltb r.address 4294967296 && ltb r.value 18446744073709551616) (sized more) sz in
     let end : at + 3 + 30 + 33 * length more + 3 ≡ at + 33 * length (r ∷ more) + 3 = omega arith in
     let all = append_assoc rs (r ∷ []) more in
-    record_loads p at rs r (λ t. load_fields t (at + 3 + 30) (wholes more ++ whole 3 [] ∷ [])) a.0 b.0
+    record_loads p at (at + 3 + 30) rs r (λ t. load_fields t (at + 3 + 30) (wholes more ++ whole 3 [] ∷ [])) a.0 b.0
     ∙ fields_load p (at + 3 + 30) (rs ++ r ∷ []) more a.1 b.1
     ∙ (λ i. ended_as (holding p (all i)) (Ok (end i)))
 

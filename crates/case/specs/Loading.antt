@@ -1,19 +1,19 @@
 -- Loading a run from bytes. Assumes nothing.
-use Rattle.std.specs.Prelude.{◌≡◌, ℕ, ◌+◌, ◌*◌, ◌<◌, cond, not, ◌&&◌, List, [], ◌∷◌, ◌++◌, length, take, Some, None, Ok, Err, Option, Result, ◌==◌, nat_lt}
-use Rattle.memory.specs.declared.records.Entry.{Entry}
+use Rattle.std.specs.Prelude.{◌≡◌, ℕ, ◌+◌, ◌*◌, ◌<◌, cond, List, [], ◌∷◌, ◌++◌, length, take, Some, None, Ok, Err, Option, Result, nat_lt}
 use Rattle.memory.specs.declared.records.Record.{Record}
 use Rattle.memory.specs.declared.refusals.Refusal.{Refusal}
-use Rattle.memory.specs.declared.refusals.Refusal.TheVariants as refuse
 use Rattle.memory.specs.declared.verdicts.Verdict.{Verdict}
-use Rattle.memory.specs.Admission.{opens, judgement}
+use Rattle.memory.specs.Admission.{judgement}
 use Rattle.wire.specs.declared.faults.ByteFault.{ByteFault}
 use Rattle.wire.specs.declared.faults.RunFault.{RunFault}
 use Rattle.wire.specs.declared.faults.RunFault.TheVariants.{Bytes, Content}
 use Rattle.wire.specs.declared.fields.RunHead.{RunHead}
 use Rattle.wire.specs.declared.fields.Text.TheVariants.{Run}
+use Rattle.wire.specs.declared.runs.EntryAt.{EntryAt}
 use Rattle.wire.specs.Bytes.{all_of, record_field, run_head, run_bytes}
 use Rattle.wire.specs.Faults.{run_fault}
-use Rattle.wire.specs.Fields.{Piece, pieces, Sort, head_field, record_field as record_sort, line_field, order_field, orphan_field, end_field, Shown, fault_at, next_field, later, entry_of, run_head_of}
+use Rattle.wire.specs.Fields.{Piece, pieces, Shown, fault_at, next_field, later}
+use Rattle.wire.specs.Said.{first_head, entry_said}
 use Rattle.case.specs.State.{State, opened, with_record}
 use Rattle.case.specs.Calls.{Outcome, sealed_verdict, sealed}
 
@@ -28,26 +28,19 @@ ended_as s r = record { state = s; result = r }
 abbrev pub stopped : State → RunFault → Loaded
 stopped s f = ended_as s (Err f)
 
--- a record field: its entry is admitted, and the next field follows; a refused record has the place of its field
+-- an entry is admitted, and the next field follows; a refused one has the place of its field
 abbrev pub load_judged : Result Record Refusal → ℕ → State → (State → Loaded) → Loaded
 load_judged (Ok r) at s rest = rest (with_record s r)
 load_judged (Err r) at s rest = stopped s (Content r at)
 
-abbrev pub load_entry : Result Entry ByteFault → ℕ → State → (State → Loaded) → Loaded
-load_entry (Ok e) at s rest = load_judged (judgement s.processors s.records e) at s rest
-load_entry (Err e) at s rest = stopped s (Bytes e)
-
--- a field behind the head: a record, or the end; any other is misplaced
-abbrev pub load_sort : Sort → Shown → State → (State → Loaded) → Loaded
-load_sort record_sort f s rest = load_entry (entry_of f.place f.content) f.place s rest
-load_sort end_field f s rest = ended_as s (Ok (f.place + 3))
-load_sort head_field f s rest = stopped s (Bytes (fault_at f.place))
-load_sort line_field f s rest = stopped s (Bytes (fault_at f.place))
-load_sort order_field f s rest = stopped s (Bytes (fault_at f.place))
-load_sort orphan_field f s rest = stopped s (Bytes (fault_at f.place))
+-- what a field behind the head says: an entry, or nothing where it is the end, behind which the place is `next`
+abbrev pub load_said : Result (Option EntryAt) RunFault → ℕ → State → (State → Loaded) → Loaded
+load_said (Ok (Some x)) next s rest = load_judged (judgement s.processors s.records x.entry) x.place s rest
+load_said (Ok None) next s rest = ended_as s (Ok next)
+load_said (Err e) next s rest = stopped s e
 
 abbrev pub load_field : Result Shown ByteFault → State → (State → ℕ → Loaded) → Loaded
-load_field (Ok f) s rest = load_sort f.sort f s (λ t. rest t (f.place + 3 + length f.content))
+load_field (Ok f) s rest = let next : ℕ = f.place + 3 + length f.content in load_said (entry_said f) next s (λ t. rest t next)
 load_field (Err e) s rest = stopped s (Bytes e)
 
 -- the fields from the place at on
@@ -59,12 +52,6 @@ load_fields s at (p ∷ ps) = load_field (next_field Run at (p ∷ ps)) s (λ t 
 abbrev pub place_of : RunFault → ℕ
 place_of f = (run_fault f).place
 
--- why a head is refused, if it is: its marks, then its number of processors
-abbrev pub head_refusal : ℕ → ℕ → RunHead → Option Refusal
-head_refusal model clock h =
-    cond (not (h.model == model && h.clock == clock)) (Some refuse.Foreign)
-    (cond (not (opens h.processors)) (Some refuse.Stranger) None)
-
 -- behind the end no byte may follow; then the case is sealed
 abbrev pub load_end : Result ℕ RunFault → ℕ → State → Outcome (Result (Option Verdict) RunFault)
 load_end (Err f) n s = record { answer = Err f; state = s }
@@ -74,30 +61,13 @@ abbrev pub go_on : ℕ → Loaded → Outcome (Result (Option Verdict) RunFault)
 go_on n l = load_end l.result n l.state
 
 -- a head that is refused leaves the case as it was; otherwise the case begins anew
-abbrev pub load_begun : Option Refusal → ℕ → State → ℕ → List Piece → Outcome (Result (Option Verdict) RunFault)
-load_begun (Some r) p s n ps = record { answer = Err (Content r 0); state = s }
-load_begun None p s n ps = go_on n (load_fields (opened p) 6 ps)
-
-abbrev pub load_headed : Result RunHead ByteFault → ℕ → ℕ → State → ℕ → List Piece → Outcome (Result (Option Verdict) RunFault)
-load_headed (Ok h) model clock s n ps = load_begun (head_refusal model clock h) h.processors s n ps
-load_headed (Err e) model clock s n ps = record { answer = Err (Bytes e); state = s }
-
--- a first field that is no head ends the reading there
-abbrev pub load_first : Sort → Shown → ℕ → ℕ → State → ℕ → List Piece → Outcome (Result (Option Verdict) RunFault)
-load_first head_field f model clock s n ps = load_headed (run_head_of f.place f.content) model clock s n ps
-load_first record_sort f model clock s n ps = record { answer = Err (Bytes (fault_at f.place)); state = s }
-load_first line_field f model clock s n ps = record { answer = Err (Bytes (fault_at f.place)); state = s }
-load_first order_field f model clock s n ps = record { answer = Err (Bytes (fault_at f.place)); state = s }
-load_first orphan_field f model clock s n ps = record { answer = Err (Bytes (fault_at f.place)); state = s }
-load_first end_field f model clock s n ps = record { answer = Err (Bytes (fault_at f.place)); state = s }
-
-abbrev pub load_by : Result Shown ByteFault → ℕ → ℕ → State → ℕ → List Piece → Outcome (Result (Option Verdict) RunFault)
-load_by (Ok f) model clock s n ps = load_first f.sort f model clock s n ps
-load_by (Err e) model clock s n ps = record { answer = Err (Bytes e); state = s }
+abbrev pub load_headed : Result RunHead RunFault → State → ℕ → List Piece → Outcome (Result (Option Verdict) RunFault)
+load_headed (Ok h) s n ps = go_on n (load_fields (opened h.processors) 6 ps)
+load_headed (Err e) s n ps = record { answer = Err e; state = s }
 
 -- what loading the bytes under two marks answers, and the case after it
 abbrev pub loading : ℕ → ℕ → State → List ℕ → Outcome (Result (Option Verdict) RunFault)
-loading model clock s bs = load_by (next_field Run 0 (pieces bs)) model clock s (length bs) (later (pieces bs))
+loading model clock s bs = load_headed (first_head model clock (next_field Run 0 (pieces bs))) s (length bs) (later (pieces bs))
 
 -- the first bytes are exactly a head and the records of the case
 abbrev pub Front : ℕ → ℕ → State → List ℕ → Type 0

@@ -22,6 +22,10 @@ pub record State : Type 0 where
 abbrev pub opened : ℕ → State
 opened p = record { processors = p; records = []; lines = []; stage = Open; standing = fresh; total = 0 }
 
+-- an open case of p processors with the records rs
+abbrev pub holding : ℕ → List Record → State
+holding p rs = record { processors = p; records = rs; lines = []; stage = Open; standing = fresh; total = 0 }
+
 abbrev pub with_record : State → Record → State
 with_record s r = record { processors = s.processors; records = s.records ++ r ∷ []; lines = s.lines; stage = s.stage; standing = s.standing; total = s.total }
 

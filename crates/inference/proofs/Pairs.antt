@@ -1,5 +1,6 @@
 -- Lines whose pairs are of records and differ: there are few, and the next line goes with them. Assumes nothing.
 use Rattle.std.proofs.Common.{◌≡◌, ℕ, zero, suc, ◌+◌, ◌-◌, ◌*◌, ◌<◌, ◌≤◌, Bool, true, false, not, ◌&&◌, eqb, ltb, leb, List, [], ◌∷◌, ◌++◌, length, sym, refl, ◌∙◌, subst, ⊎_elim, zero-le, suc-mul, mul-le-mul, arith}
+use Rattle.std.proofs.lemmas.List.Folds.{list_any-append}
 use Rattle.std.proofs.lemmas.Bool.{and_parts, and_from, and_left, and_right, or_parts, or_from, or_left, not-true, not_from_true, not_from_false, eq-eqb, eqb-true, ltb-true, leb-true, lt-ltb, le-leb, ne_eqb, cases_Bool, cases_eq, both_ways}
 use Rattle.memory.specs.declared.lines.Line.{Line}
 use Rattle.memory.specs.Runs.{Run}
@@ -133,3 +134,11 @@ paired_push R n few ls l h fit =
     with_last n ls l h
     (is_two n l (record { first = (t.first.some, omega (arith, t.first.within)); second = (t.second.some, omega (arith, t.second.within)); apart = ne_eqb _ _ t.apart }))
     (not-true _ p.1)
+
+-- and the pair of each is none of those listed before it
+pub new_among : (n : ℕ) (ls : List Line) (l : Line) (more : List Line) → paired n (ls ++ l ∷ more) ≡ true → listed ls l.first l.second ≡ false
+new_among n [] l more h = refl
+new_among n (k ∷ ls) l more h =
+    let p = first_paired n k (ls ++ l ∷ more) h in
+    let q = or_parts (listed ls k.first k.second) (listed (l ∷ more) k.first k.second) (sym (list_any-append (has_pair k.first k.second) ls (l ∷ more)) ∙ p.1) in
+    or_from (has_pair l.first l.second k) _ (apart_back l k (or_parts (has_pair k.first k.second l) (listed more k.first k.second) q.1).0) (new_among n ls l more p.2)

@@ -1,5 +1,5 @@
 -- What is known of an entry that was admitted. Assumes nothing.
-use Rattle.std.proofs.Common.{◌≡◌, ℕ, ◌<◌, Bool, true, false, cond, ◌&&◌, eqb, ltb, List, [], ◌∷◌, ◌++◌, is_ok, Some, None, Ok, Err, Option, Result, sym, refl, ap, ◌∙◌, subst, append_assoc, append-nil, arith}
+use Rattle.std.proofs.Common.{◌≡◌, ℕ, zero, suc, ◌<◌, Bool, true, false, cond, ◌&&◌, eqb, ltb, List, [], ◌∷◌, ◌++◌, take, is_ok, Some, None, Ok, Err, Option, Result, sym, refl, ap, ◌∙◌, subst, append_assoc, append-nil, arith}
 use Rattle.std.proofs.lemmas.Bool.{and_parts, and_from, eqb-true, lt-ltb}
 use Rattle.memory.specs.declared.kinds.Kind.{Kind}
 use Rattle.memory.specs.declared.kinds.Kind.TheVariants.{Load, Store, Fence}
@@ -93,6 +93,14 @@ admits_join p rs [] more h j = subst (λ xs. admits p xs more ≡ true) (append-
 admits_join p rs (x ∷ ks) more h j =
     let both = and_parts (is_ok (judgement p rs (logged x))) (admits p (rs ++ x ∷ []) ks) h in
     and_from (is_ok (judgement p rs (logged x))) _ both.0 (admits_join p (rs ++ x ∷ []) ks more both.1 (subst (λ xs. admits p xs more ≡ true) (sym (append_assoc rs (x ∷ []) ks)) j))
+
+-- and the first of lawful records are a lawful run
+pub admits_front : (p : ℕ) (rs ks : List Record) (n : ℕ) → admits p rs ks ≡ true → admits p rs (take n ks) ≡ true
+admits_front p rs ks zero h = refl
+admits_front p rs [] (suc n) h = refl
+admits_front p rs (x ∷ ks) (suc n) h =
+    let both = and_parts (is_ok (judgement p rs (logged x))) (admits p (rs ++ x ∷ []) ks) h in
+    and_from (is_ok (judgement p rs (logged x))) _ both.0 (admits_front p (rs ++ x ∷ []) ks n both.1)
 
 pub admits_more : (p : ℕ) (rs : List Record) (e : Entry) (r : Record) → admits p [] rs ≡ true → judgement p rs e ≡ Ok r → admits p [] (rs ++ r ∷ []) ≡ true
 admits_more p rs e r h j = admits_push p [] rs r h (ap is_ok (ap (judgement p rs) (logged_back p rs e r j) ∙ j))

@@ -13,6 +13,10 @@ use Rattle.memory.specs.Limits.{most_records, most_processors, reading_limit}
 abbrev pub opens : ℕ → Bool
 opens p = nat_le 1 p && nat_le p most_processors
 
+-- whether it may, or why not
+abbrev pub opening_judgement : ℕ → Result (Unit {0}) Refusal
+opening_judgement p = cond (opens p) (Ok tt) (Err refuse.Stranger)
+
 -- the record that an entry is admitted as, where its kind is k
 abbrev pub record_of : Kind → Entry → Record
 record_of k e = record { processor = e.processor; kind = k; address = e.address; value = e.value; enter = e.enter; commit = e.commit }

@@ -1,5 +1,5 @@
 -- Which store a load reads, and orphans. Assumes nothing.
-use Rattle.std.specs.Prelude.{◌≡◌, ℕ, zero, suc, ◌<◌, ◌≤◌, Bool, true, false, cond, not, ◌&&◌, List, length, Some, None, Option, ◌==◌}
+use Rattle.std.specs.Prelude.{◌≡◌, ℕ, zero, suc, ◌<◌, ◌≤◌, Bool, true, false, cond, not, ◌&&◌, List, length, Some, None, Option, ◌==◌, nat_le, nat_lt}
 use Rattle.memory.specs.declared.records.Record.{Record}
 use Rattle.memory.specs.Kinds.{is_load, is_store}
 use Rattle.std.specs.List.{list_any}
@@ -16,6 +16,10 @@ unread rs x = is_load x.kind && (not (x.value == 0) && not (list_any (reads_from
 -- record l of the run is an orphan: it reads none of its stores
 abbrev pub orphan : List Record → ℕ → Bool
 orphan rs l = unread rs (at rs l)
+
+-- l is the number of a record of the run, and that is an orphan
+abbrev pub names_orphan : List Record → ℕ → Bool
+names_orphan rs l = nat_lt 0 l && (nat_le l (length rs) && orphan rs l)
 
 -- a, unless it is 0, and else b
 abbrev pub first_of : ℕ → ℕ → ℕ

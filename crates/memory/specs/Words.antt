@@ -7,8 +7,8 @@ use Rattle.memory.specs.declared.refusals.Layer.TheVariants.{RunBytes, Content, 
 
 -- what a refusal means, in a sentence
 abbrev pub refusal_words : Refusal → List ℕ
-refusal_words Malformed = codes "A field has a wrong tag or length, the bytes end too early, or bytes follow the end."
-refusal_words Foreign = codes "A mark in the head is not that of the model or the clock in use."
+refusal_words Malformed = codes "A field has a wrong tag or length, the bytes end too early or go on behind the end, or a paper's verdict is not 1, 2 or 3."
+refusal_words Foreign = codes "A mark in the head is not that of the model or the clock in use, or a paper is of another number of records."
 refusal_words Decided = codes "The case is decided, and the call would change it."
 refusal_words Sealed = codes "The case is sealed: it takes no more records and no second sealing."
 refusal_words Unsealed = codes "A search is asked of an open case."
@@ -21,8 +21,8 @@ refusal_words Backward = codes "The commit reading is below the enter reading, o
 refusal_words Twin = codes "A store has the address and the value of an admitted store."
 refusal_words Spent = codes "The steps done and those asked for are more than 2^62 together."
 refusal_words Bare = codes "The verdict has no paper."
-refusal_words Short = codes "The bytes to be filled are too few."
-refusal_words Unfounded = codes "A line of the paper does not follow from the run and the lines before it."
+refusal_words Short = codes "The bytes or the list to be filled are too small."
+refusal_words Unfounded = codes "A line of the paper does not follow from the run and the lines before it, or its pair is listed before it."
 refusal_words Hollow = codes "The paper's conclusion fails."
 
 -- what a layer judges

@@ -1,12 +1,22 @@
 // What is lawful at admission, judged in one place.
 ghost use Rattle.std.specs.Prelude.{◌≡◌, Some};
-ghost use Rattle.memory.specs.Admission.{judgement, judge_kind, blank_entry, last_enter, same_store};
+ghost use Rattle.memory.specs.Admission.{opening_judgement, judgement, judge_kind, blank_entry, last_enter, same_store};
 ghost use Rattle.std.specs.List.{list_any};
 
 use crate::kinds::Kind;
-use crate::limits::{MOST_RECORDS, READING_LIMIT};
+use crate::limits::{MOST_PROCESSORS, MOST_RECORDS, READING_LIMIT};
 use crate::records::{Entry, Record};
 use crate::refusals::Refusal;
+
+// Whether a run may have so many processors.
+pub fn judge_opening(processors: u8) -> Result<(), Refusal>
+    ensures { result ≡ opening_judgement processors }
+{
+    if !(1..=MOST_PROCESSORS).contains(&processors) {
+        return Err(Refusal::Stranger);
+    }
+    Ok(())
+}
 
 // A store of 0, or a fence with an address or a value.
 fn is_blank(kind: Kind, e: Entry) -> bool

@@ -1,9 +1,9 @@
 // Which store a load reads, and orphans.
 ghost use Rattle.std.specs.Prelude.{◌≡◌, length};
 ghost use Rattle.std.specs.List.{list_any};
-ghost use Rattle.memory.specs.Reading.{reads_from, unread, orphan, first_orphan, Least};
+ghost use Rattle.memory.specs.Reading.{reads_from, unread, orphan, names_orphan, first_orphan, Least};
 
-use crate::records::Record;
+use crate::records::{Record, record_at};
 
 // The first is a load of a value other than 0, the second the store with its address and value.
 pub fn reads_from(load: Record, store: Record) -> bool
@@ -37,4 +37,11 @@ pub fn smallest_orphan(records: &[Record]) -> Option<usize>
         .iter()
         .position(|r| is_unread(*r, records))
         .map(|index| index + 1)
+}
+
+// The number is that of an orphan.
+pub fn is_orphan(records: &[Record], number: u8) -> bool
+    ensures { result ≡ names_orphan records.now number }
+{
+    record_at(records, number).is_some_and(|load| is_unread(load, records))
 }

@@ -66,8 +66,9 @@ impl fmt::Display for Refusal {
     fn fmt<W: fmt::Write>(&self, f: &mut fmt::Formatter<W>) -> fmt::Result {
         f.write_str(match self {
             Refusal::Malformed =>
-                "A field has a wrong tag or length, the bytes end too early, or bytes follow the end.",
-            Refusal::Foreign => "A mark in the head is not that of the model or the clock in use.",
+                "A field has a wrong tag or length, the bytes end too early or go on behind the end, or a paper's verdict is not 1, 2 or 3.",
+            Refusal::Foreign =>
+                "A mark in the head is not that of the model or the clock in use, or a paper is of another number of records.",
             Refusal::Decided => "The case is decided, and the call would change it.",
             Refusal::Sealed =>
                 "The case is sealed: it takes no more records and no second sealing.",
@@ -83,9 +84,9 @@ impl fmt::Display for Refusal {
             Refusal::Twin => "A store has the address and the value of an admitted store.",
             Refusal::Spent => "The steps done and those asked for are more than 2^62 together.",
             Refusal::Bare => "The verdict has no paper.",
-            Refusal::Short => "The bytes to be filled are too few.",
+            Refusal::Short => "The bytes or the list to be filled are too small.",
             Refusal::Unfounded =>
-                "A line of the paper does not follow from the run and the lines before it.",
+                "A line of the paper does not follow from the run and the lines before it, or its pair is listed before it.",
             Refusal::Hollow => "The paper's conclusion fails.",
         })
     }

@@ -15,6 +15,10 @@ use Rattle.search.specs.Placing.{Placeable}
 abbrev pub Irreflexive : Run → Type 0
 Irreflexive R = (a : ℕ) → Known R a → must_precede R a a ≡ false
 
+-- no record of the order must come before itself
+abbrev pub IrreflexiveIn : Run → List ℕ → Type 0
+IrreflexiveIn R order = (i : ℕ) → i < length order → must_precede R (get_or order i 0) (get_or order i 0) ≡ false
+
 -- each record was placeable behind those before it, whatever lines were listed then
 abbrev pub Built : Run → List ℕ → Type 0
 Built R placed = (i : ℕ) → i < length placed → Placeable R [] (take i placed) (get_or placed i 0)
@@ -89,7 +93,7 @@ module _ (R : Run) (ls : List Line) (order : List ℕ) (h : Legal R order) (hold
   }
 
 -- with all placed the order is legal
-module _ (R : Run) (irreflexive : Irreflexive R) (order : List ℕ) (b : Built R order) where
+module _ (R : Run) (order : List ℕ) (b : Built R order) (irreflexive : IrreflexiveIn R order) where
   -- no record stands at two places
   apart : (i j : ℕ) → i < j → j < length order → get_or order i 0 ≡ get_or order j 0 → ⊥
   apart i j lt lj e = both_ways _ (b j lj).unplaced (among_first order j _ (omega arith) i lt e)
@@ -107,7 +111,7 @@ module _ (R : Run) (irreflexive : Irreflexive R) (order : List ℕ) (b : Built R
 
   before : (i j : ℕ) → i < length order → j < length order → must_precede R (get_or order i 0) (get_or order j 0) ≡ true → i < j
   before i j li lj m =
-      ⊎_elim (λ e. absurd (both_ways _ (irreflexive _ (b j lj).known) (ap (λ k. must_precede R (get_or order k 0) (get_or order j 0)) (sym e) ∙ m)))
+      ⊎_elim (λ e. absurd (both_ways _ (irreflexive j lj) (ap (λ k. must_precede R (get_or order k 0) (get_or order j 0)) (sym e) ∙ m)))
       (⊎_elim (λ lt. lt) (λ gt. absurd (both_ways _ (later i j gt li) m)))
       (cases_order i j)
 

@@ -3,6 +3,7 @@ pub mod Bound
 pub mod Built
 pub mod Distinct
 pub mod Kept
+pub mod LegalOrders
 pub mod Placing
 pub mod Steps
 pub mod Underway

@@ -4,10 +4,10 @@ use mathlib.Core.List.{reverse-cons, reverse-reverse}
 use Rattle.std.proofs.lemmas.Bool.{eqb-true, eqb-false, true≢false}
 use Rattle.memory.specs.declared.lines.Line.{Line}
 use Rattle.memory.specs.declared.verdicts.Verdict.{Verdict}
-use Rattle.memory.specs.declared.verdicts.Verdict.TheVariants.{Order}
+use Rattle.memory.specs.declared.verdicts.Verdict.TheVariants.{Order, Opposed, Orphan, Exhausted}
 use Rattle.memory.specs.Runs.{Run}
 use Rattle.search.specs.Placing.{Standing, Takes, takes}
-use Rattle.search.specs.Steps.{Step, places, completes, takes_back, exhausts, Walk, Steps, enough, decided, onward, retreat, advance, step_by, step, walk_on, walk, Ends}
+use Rattle.search.specs.Steps.{Stepped, Step, places, completes, takes_back, exhausts, Walk, Steps, enough, decided, onward, retreat, advance, step_by, step, walk_on, walk, Ends}
 use Rattle.search.proofs.Placing.{takes_is}
 
 -- a walk behind n steps more
@@ -90,3 +90,22 @@ pub steps_few : {R : Run} {ls : List Line} {k : ℕ} {s : Standing} {w : Walk} �
 steps_few enough = omega arith
 steps_few (decided v one) = omega arith
 steps_few (onward w one more) = omega (arith, steps_few more)
+
+-- what a search can be decided by
+abbrev pub BySearch : Option Verdict → Type 0
+BySearch None = Unit {0}
+BySearch (Some Order) = Unit {0}
+BySearch (Some Opposed) = ⊥
+BySearch (Some (Orphan l)) = ⊥
+BySearch (Some Exhausted) = Unit {0}
+
+step_by_search : {R : Run} {ls : List Line} {s : Standing} {t : Stepped} → Step R ls s t → BySearch t.verdict
+step_by_search (places k takes more) = tt
+step_by_search (completes k takes all) = tt
+step_by_search (takes_back front last none is) = tt
+step_by_search (exhausts none is) = tt
+
+pub steps_by_search : {R : Run} {ls : List Line} {k : ℕ} {s : Standing} {w : Walk} → Steps R ls k s w → BySearch w.verdict
+steps_by_search enough = tt
+steps_by_search (decided v one) = step_by_search one
+steps_by_search (onward w one more) = steps_by_search more

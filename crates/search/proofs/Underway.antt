@@ -50,7 +50,8 @@ module _ (R : Run) (ls : List Line) (irreflexive : Irreflexive R) (hold : (order
         spent = omega (arith, u.spent, falls_placed R.size k p.known.some p.known.within [] s.placed s.mark refl p.unplaced takes.1);
       }
   led s t made (completes k takes all) u =
-      built_legal R irreflexive (s.placed ++ k ∷ []) (built_push R s.placed k u.built (lineless R ls s.placed k takes.0)) (length_push s.placed k ∙ all)
+      let built : Built R (s.placed ++ k ∷ []) = built_push R s.placed k u.built (lineless R ls s.placed k takes.0) in
+      built_legal R (s.placed ++ k ∷ []) built (λ i lt. irreflexive _ (built i lt).known) (length_push s.placed k ∙ all)
   led s t made (takes_back front last none is) u = record {
     built = built_front R front last (subst (Built R) is u.built);
     ahead = λ order legal. ahead_taken_back R ls order legal (hold order legal) s (u.ahead order legal) none front last is;

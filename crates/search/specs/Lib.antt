@@ -1,3 +1,4 @@
+pub mod Orders
 pub mod Parts
 pub mod Placing
 pub mod Steps

@@ -2,9 +2,11 @@
 use Rattle.std.specs.Prelude.{ℕ, zero, suc, ◌+◌, ◌*◌, Bool, true, false, cond, List, [], ◌∷◌, length, take, drop, Some, None, Ok, Err, Option, Result, ◌==◌, nat_le, slice_index}
 use Rattle.memory.specs.declared.records.Entry.{Entry}
 use Rattle.wire.specs.declared.faults.ByteFault.{ByteFault}
+use Rattle.wire.specs.declared.fields.PaperHead.{PaperHead}
 use Rattle.wire.specs.declared.fields.RunHead.{RunHead}
 use Rattle.wire.specs.declared.fields.Text.{Text}
 use Rattle.wire.specs.declared.fields.Text.TheVariants.{Run, Paper}
+use Rattle.wire.specs.declared.fields.WrittenLine.{WrittenLine}
 use Rattle.wire.specs.Bytes.{entry_in}
 use Rattle.wire.specs.Tags.{run_head_tag, record_tag, run_end_tag, paper_head_tag, line_tag, order_tag, orphan_tag, paper_end_tag}
 
@@ -107,3 +109,23 @@ run_head_content h = h.processors ∷ h.model ∷ h.clock ∷ []
 
 abbrev pub run_head_of : ℕ → List ℕ → Result RunHead ByteFault
 run_head_of = content_of 3 run_head_in
+
+-- what the four bytes of a paper's head say, these bytes, and what a head at a place says
+abbrev pub paper_head_in : List ℕ → PaperHead
+paper_head_in c = record { verdict = slice_index c 0; model = slice_index c 1; clock = slice_index c 2; records = slice_index c 3 }
+
+abbrev pub paper_head_content : PaperHead → List ℕ
+paper_head_content h = h.verdict ∷ h.model ∷ h.clock ∷ h.records ∷ []
+
+abbrev pub paper_head_of : ℕ → List ℕ → Result PaperHead ByteFault
+paper_head_of = content_of 4 paper_head_in
+
+-- what the four bytes of a written line say, these bytes, and what a line at a place says
+abbrev pub line_in : List ℕ → WrittenLine
+line_in c = record { rule = slice_index c 0; first = slice_index c 1; second = slice_index c 2; third = slice_index c 3 }
+
+abbrev pub line_content : WrittenLine → List ℕ
+line_content l = l.rule ∷ l.first ∷ l.second ∷ l.third ∷ []
+
+abbrev pub written_line_of : ℕ → List ℕ → Result WrittenLine ByteFault
+written_line_of = content_of 4 line_in

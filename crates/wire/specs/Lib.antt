@@ -4,6 +4,7 @@ pub mod Faults
 pub mod Fields
 pub mod Framed
 pub mod Pens
+pub mod Said
 pub mod Seen
 pub mod Tags
 pub mod Written

@@ -38,6 +38,24 @@ pub struct RunHead {
     pub clock: u8,
 }
 
+// The content of a paper's head: the number of the verdict, the marks of a model and a clock, and the number of records, byte by byte.
+#[derive(Clone, Copy)]
+pub struct PaperHead {
+    pub verdict: u8,
+    pub model: u8,
+    pub clock: u8,
+    pub records: u8,
+}
+
+// The content of a line, byte by byte: nothing of it is judged, and its rule is any number.
+#[derive(Clone, Copy)]
+pub struct WrittenLine {
+    pub rule: u8,
+    pub first: u8,
+    pub second: u8,
+    pub third: u8,
+}
+
 // A reader over lent bytes, which stands at a place and copies nothing.
 #[derive(Drop)]
 pub struct Reader<'a> {

@@ -3,5 +3,6 @@
 
 pub mod faults;
 pub mod fields;
+pub mod runs;
 pub mod tags;
 pub mod writing;

@@ -34,9 +34,9 @@ pub enum Paper<'a> {
     Orphan(u8),
 }
 
-// The marks of a model and a clock and the number of records, byte by byte as the format has them.
+// What the head of a paper says besides its verdict: the marks of a model and a clock and the number of records, byte by byte.
 #[derive(Clone, Copy)]
-pub struct PaperHead {
+pub struct PaperMarks {
     pub model: u8,
     pub clock: u8,
     pub records: u8,
@@ -214,7 +214,7 @@ impl Paper<'_> {
 }
 
 // A head, a body, an end.
-pub fn write_paper(out: &mut [u8], head: PaperHead, paper: Paper<'_>) -> Result<usize, TooShort>
+pub fn write_paper(out: &mut [u8], head: PaperMarks, paper: Paper<'_>) -> Result<usize, TooShort>
     ensures { Written (paper_bytes (paper_number paper.entry) head.model head.clock head.records (paper_body paper.entry)) out.old out.new result }
 {
     check_room(out, 10 + paper.body_len())?;

@@ -1,8 +1,8 @@
 // Making, opening, admitting and sealing.
-ghost use Rattle.std.specs.Prelude.{◌≡◌, IfOk};
+ghost use Rattle.std.specs.Prelude.{◌≡◌, true, IfOk};
 ghost use Rattle.std.specs.Option.{option_map};
 ghost use Rattle.std.specs.Result.{result_err};
-ghost use Rattle.memory.specs.Admission.{judgement};
+ghost use Rattle.memory.specs.Admission.{opens, judgement};
 ghost use Rattle.memory.specs.Runs.{run_of};
 ghost use Rattle.memory.specs.Settings.{setting_of};
 ghost use Rattle.stages.specs.Stages.{permits};
@@ -12,9 +12,9 @@ ghost use Rattle.case.specs.Views.{view};
 
 use crate::cases::{Case, Held};
 use inference::lines::Lines;
-use memory::admission::judge;
+use memory::admission::{judge, judge_opening};
 use memory::clocks::Clock;
-use memory::limits::{MOST_PROCESSORS, MOST_RECORDS};
+use memory::limits::MOST_RECORDS;
 use memory::models::Model;
 use memory::reading::smallest_orphan;
 use memory::records::Entry;
@@ -46,19 +46,25 @@ impl Held {
             .map_err(|refusal| self.fault(refusal))
     }
 
-    pub(super) fn open(&mut self, processors: u8) -> Result<(), Fault>
-        ensures answer { result ≡ (opening self.old processors).answer }
-        ensures state { self.new ≡ (opening self.old processors).state }
+    // Anew, with so many processors.
+    pub(super) fn begin(&mut self, processors: u8)
+        requires { opens processors ≡ true }
+        ensures { self.new ≡ begun processors }
     {
-        if !(1..=MOST_PROCESSORS).contains(&processors) {
-            return Err(self.fault(Refusal::Stranger));
-        }
         self.records.clear();
         self.lines.clear();
         self.search.clear();
         self.processors = processors;
         self.stage = Stage::Open;
         self.steps = 0;
+    }
+
+    fn open(&mut self, processors: u8) -> Result<(), Fault>
+        ensures answer { result ≡ (opening self.old processors).answer }
+        ensures state { self.new ≡ (opening self.old processors).state }
+    {
+        judge_opening(processors).map_err(|refusal| self.fault(refusal))?;
+        self.begin(processors);
         Ok(())
     }
 

@@ -2,50 +2,29 @@
 ghost use Rattle.std.specs.Prelude.{◌≡◌};
 ghost use Rattle.memory.specs.Runs.{run_of};
 ghost use Rattle.memory.specs.Settings.{setting_of};
-ghost use Rattle.wire.specs.Fields.{record_field};
-ghost use Rattle.wire.specs.Seen.{shown, part_of, left};
+ghost use Rattle.wire.specs.Seen.{left};
 ghost use Rattle.wire.specs.declared.fields.Text.TheVariants.{Run};
 ghost use Rattle.case.specs.Calls.{AnswerClaims, AlwaysClaims};
-ghost use Rattle.case.specs.Loading.{load_fields, ended_as, head_refusal, loading, Kept};
-ghost use Rattle.case.specs.Parts.{Turned, Gained, went_record, went_field, told_by, left_by, Walked, NotBefore, begun_as, begun_state, Headed};
+ghost use Rattle.case.specs.Loading.{load_fields, ended_as, loading, Kept};
+ghost use Rattle.case.specs.Parts.{Given, told_by, left_by, Walked, NotBefore};
 ghost use Rattle.case.specs.Views.{view};
 
 use crate::cases::{Case, Held};
 use memory::clocks::Clock;
 use memory::models::Model;
-use memory::records::Entry;
-use memory::refusals::Refusal;
 use memory::verdicts::Verdict;
-use std::ops::ControlFlow;
-use wire::faults::{ByteFault, RunFault};
-use wire::fields::{Field, Part, Reader, RunHead, Text};
+use wire::faults::RunFault;
+use wire::fields::{Reader, Text};
+use wire::runs::{EntryAt, entry_in, head_in};
 
 impl Held {
-    // A record field: its entry is admitted.
-    fn load_record(&mut self, part: Part<'_>) -> Result<(), RunFault>
-        ensures turned { Turned self.old self.new (part_of record_field part.entry) (went_record result) }
-        ensures gained { Gained self.old self.new (part_of record_field part.entry) (went_record result) }
+    // An entry is admitted; a refused one has the place of its field.
+    fn load_entry(&mut self, found: EntryAt) -> Result<(), RunFault>
+        ensures { Given self.old found self.new result }
     {
-        let entry = part.read::<Entry>()?;
-        self.admit_lawful(entry)
-            .map_err(|refusal| RunFault::Content {
-                refusal,
-                place: part.place,
-            })?;
-        Ok(())
-    }
-
-    // A field behind the head: the next follows where a record was admitted, and none at the end.
-    fn load_field(&mut self, field: Field<'_>) -> Result<ControlFlow<()>, RunFault>
-        ensures turned { Turned self.old self.new (shown field.entry) (went_field result) }
-        ensures gained { Gained self.old self.new (shown field.entry) (went_field result) }
-    {
-        match field {
-            Field::Record(part) => self.load_record(part).map(ControlFlow::Continue),
-            Field::End { .. } => Ok(ControlFlow::Break(())),
-            Field::Head(part) | Field::Line(part) | Field::Order(part) | Field::Orphan(part) => Err(
-                ByteFault { place: part.place }.into(),
-            ),
+        match self.admit_lawful(found.entry) {
+            Ok(_) => Ok(()),
+            Err(refusal) => Err(found.refused(refusal)),
         }
     }
 
@@ -57,41 +36,10 @@ impl Held {
         ensures place { NotBefore reader.old.at result }
         ensures bytes { reader.new.bytes ≡ reader.old.bytes }
     {
-        while self.load_field(reader.next()?)?.is_continue() {}
-        Ok(())
-    }
-
-    // The marks of the head, then its number of processors; the case then begins anew.
-    fn begin<M: Model, C: Clock>(&mut self, head: RunHead) -> Result<(), RunFault>
-        ensures answer { result ≡ begun_as (head_refusal M.Model.MARK C.Clock.MARK head) }
-        ensures state { self.new ≡ begun_state (head_refusal M.Model.MARK C.Clock.MARK head) head.processors self.old }
-    {
-        if head.model != M::MARK || head.clock != C::MARK {
-            return Err(RunFault::Content {
-                refusal: Refusal::Foreign,
-                place: 0,
-            });
+        while let Some(found) = entry_in(reader.next()?)? {
+            self.load_entry(found)?;
         }
-        self.open(head.processors)
-            .map_err(|fault| RunFault::Content {
-                refusal: fault.refusal,
-                place: 0,
-            })
-    }
-
-    // The first field; one that is no head ends the reading there.
-    fn load_head<M: Model, C: Clock>(&mut self, reader: &mut Reader<'_>) -> Result<(), RunFault>
-        requires text { reader.old.text ≡ Run }
-        requires start { reader.old.at ≡ 0 }
-        ensures headed { Headed M.Model.MARK C.Clock.MARK self.old reader.old.bytes.now self.new reader.new.at result }
-        ensures bytes { reader.new.bytes ≡ reader.old.bytes }
-        ensures text { reader.new.text ≡ reader.old.text }
-    {
-        let Field::Head(part) = reader.next()? else {
-            return Err(ByteFault { place: 0 }.into());
-        };
-        let head = part.read::<RunHead>()?;
-        self.begin::<M, C>(head)
+        Ok(())
     }
 
     // Of the model and the clock it takes the marks alone.
@@ -102,7 +50,8 @@ impl Held {
         ensures claims { AlwaysClaims self.new.records result }
     {
         let mut reader = Reader::over(Text::Run, bytes);
-        self.load_head::<M, C>(&mut reader)?;
+        let head = head_in::<M, C>(reader.next()?)?;
+        self.begin(head.processors);
         self.load_fields(&mut reader)?;
         reader.finish()?;
         Ok(self.close())

@@ -14,7 +14,7 @@ use memory::refusals::{Fault, Refusal};
 use memory::verdicts::Verdict;
 use wire::fields::RunHead;
 use wire::writing;
-use wire::writing::{Paper, PaperHead};
+use wire::writing::{Paper, PaperMarks};
 
 impl<M: Model, C: Clock> Case<M, C> {
     // The run, at any stage. It loads, in any case of this model and clock, as the same processors and records.
@@ -43,7 +43,7 @@ impl<M: Model, C: Clock> Case<M, C> {
     fn put_paper(&self, out: &mut [u8], paper: Paper<'_>) -> Result<usize, Fault>
         ensures { Wrote (view self.now) (paper_bytes (paper_number paper.entry) M.Model.MARK C.Clock.MARK (length (view self.now).records) (paper_body paper.entry)) out.old out.new result }
     {
-        let head = PaperHead {
+        let head = PaperMarks {
             model: M::MARK,
             clock: C::MARK,
             records: self.held.records.len() as u8,

@@ -29,7 +29,7 @@ impl<'a, M: Model, C: Clock> Premises<'a, M, C> {
     }
 
     // The records of a run, with these lines.
-    pub(crate) fn of<'b: 'a>(run: &Run<'b, M, C>, lines: &'a [Line]) -> Premises<'a, M, C>
+    pub fn of<'b: 'a>(run: &Run<'b, M, C>, lines: &'a [Line]) -> Premises<'a, M, C>
         ensures run { run_in result ≡ run_is run.now }
         ensures lines { lines_in result ≡ lines.now }
     {

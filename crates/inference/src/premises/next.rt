@@ -11,12 +11,17 @@ use memory::lines::{Line, Rule};
 use memory::models::Model;
 
 impl<M: Model, C: Clock> Premises<'_, M, C> {
-    // The line, if it follows and its pair is new.
+    // The line follows, and its pair is new.
+    pub fn fits(&self, line: Line) -> bool
+        ensures { result ≡ fits (run_in self.now) (lines_in self.now) line }
+    {
+        self.follows(line) && !is_listed(self.lines, line.first, line.second)
+    }
+
     fn if_fits(&self, line: Line) -> Option<Line>
         ensures { result ≡ if_fits (fits (run_in self.now) (lines_in self.now) line) line }
     {
-        let fits = self.follows(line) && !is_listed(self.lines, line.first, line.second);
-        fits.then_some(line)
+        self.fits(line).then_some(line)
     }
 
     fn least_third(&self, rule: Rule, first: u8, second: u8) -> Option<Line>

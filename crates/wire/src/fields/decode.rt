@@ -1,10 +1,10 @@
 // What the content of a field says.
 ghost use Rattle.std.specs.Prelude.{◌≡◌, ℕ, cond, ◌==◌, List, length, Some, None, IfOk, IfSome};
 ghost use Rattle.wire.specs.Bytes.{entry_bytes, entry_in};
-ghost use Rattle.wire.specs.Fields.{content_of, run_head_in, run_head_content};
+ghost use Rattle.wire.specs.Fields.{content_of, run_head_in, run_head_content, paper_head_in, paper_head_content, line_in, line_content};
 
 use crate::faults::ByteFault;
-use crate::fields::{Part, RunHead};
+use crate::fields::{PaperHead, Part, RunHead, WrittenLine};
 use memory::records::Entry;
 
 // What so many bytes say; written again, it is these bytes. Other lengths say nothing.
@@ -60,6 +60,46 @@ impl Content for RunHead {
             processors,
             model,
             clock,
+        })
+    }
+}
+
+impl Content for PaperHead {
+    ghost size = { 4 };
+
+    ghost said = { paper_head_in };
+
+    ghost bytes = { paper_head_content };
+
+    fn read(content: &[u8]) -> Option<PaperHead> {
+        let [verdict, model, clock, records] = *content else {
+            return None;
+        };
+        Some(PaperHead {
+            verdict,
+            model,
+            clock,
+            records,
+        })
+    }
+}
+
+impl Content for WrittenLine {
+    ghost size = { 4 };
+
+    ghost said = { line_in };
+
+    ghost bytes = { line_content };
+
+    fn read(content: &[u8]) -> Option<WrittenLine> {
+        let [rule, first, second, third] = *content else {
+            return None;
+        };
+        Some(WrittenLine {
+            rule,
+            first,
+            second,
+            third,
         })
     }
 }

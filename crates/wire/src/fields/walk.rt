@@ -27,6 +27,22 @@ fn field_named<'a>(text: Text, tag: u8, part: Part<'a>) -> Result<Field<'a>, Byt
     }
 }
 
+impl Field<'_> {
+    // What is wrong where this field may not stand, or not with this length.
+    pub fn misplaced(self) -> ByteFault
+        ensures { result ≡ fault_at (shown self.entry).place }
+    {
+        match self {
+            Field::Head(part)
+            | Field::Record(part)
+            | Field::Line(part)
+            | Field::Order(part)
+            | Field::Orphan(part) => ByteFault { place: part.place },
+            Field::End { place } => ByteFault { place },
+        }
+    }
+}
+
 impl<'a> Reader<'a> {
     // The tag and the content of the whole field that stands at the reader's place, if one does.
     fn frame(&self) -> Option<(u8, Part<'a>)>
