@@ -1,0 +1,4 @@
+// A list over a lent slice, one type for every kind of entry.
+#![tactic(auto)]
+
+pub mod lent;
