@@ -22,8 +22,10 @@ use Rattle.stages.specs.declared.Stage.TheVariants.{Open, Sealed, Decided}
 use Rattle.stages.specs.Stages.{permits, stage_after, verdict_at}
 use Rattle.case.specs.State.{State, opened}
 use Rattle.case.specs.Calls.{opening, open_if, admit_by, admit_if, admitting, stage_listed, with_lines, infer_if, inferring, seal_if, sealing, search_within, search_if, searching}
+use Rattle.referee.proofs.Truth.{ruling_sound}
 use Rattle.checker.specs.History.{Invocation, begin, admit, infer, seal, search_on, write_run, write_slip, write_paper, after_call, after, Reckoning, from_opening, begun, record_in, added, searched, reckoned_by, reckoned}
-use Rattle.checker.specs.Promise.{SoundAndDecidedInTime, AfterEveryHistory}
+use Rattle.checker.specs.Promise.{SoundDecidedInTimeAndAccepted, AfterEveryHistory, VerdictsAndPapersAreTrue}
+use Rattle.checker.proofs.Accepted.{good_accepted}
 use Rattle.checker.proofs.Good.{Stands, Good, good_opened, good_claims, good_call}
 
 good_after : (S : Setting) → LawfulClock S.earlier → (s : State) → Good S s → (calls : List Invocation) → Good S (after S s calls)
@@ -137,8 +139,8 @@ decides R Sealed t made asked underway all enough = absurd (omega (arith, underw
 decides R (Decided v) t made asked claims all enough = (v, refl)
 
 -- a good case is sound and decided
-sound_and_decided_in_time : (S : Setting) (s : State) → Good S s → (asked : ℕ) → AllMade s.stage asked s.total → SoundAndDecidedInTime S s (record { processors = s.processors; records = s.records; asked = asked; answered = s.total })
-sound_and_decided_in_time S s good asked made = record {
+sound_decided_in_time_and_accepted : (S : Setting) (s : State) → Good S s → (asked : ℕ) → AllMade s.stage asked s.total → SoundDecidedInTimeAndAccepted S s (record { processors = s.processors; records = s.records; asked = asked; answered = s.total })
+sound_decided_in_time_and_accepted S s good asked made = record {
   processors = refl;
   records = refl;
   lines = λ more goes_on order legal.
@@ -147,13 +149,17 @@ sound_and_decided_in_time S s good asked made = record {
   verdict = good_claims S s good;
   decided = decides (run_of S s.records) s.stage s.standing s.total asked good.stands made;
   total = refl;
+  accepted = good_accepted S s good;
 }
 
-pub after_every_history : (S : Setting) → LawfulClock S.earlier → AfterEveryHistory S
+after_every_history : (S : Setting) → LawfulClock S.earlier → AfterEveryHistory S
 after_every_history S law before p ok calls =
     let s = after S (opened p) calls in
     let a = reckoned S (opened p) (from_opening p) calls in
     let held = after_holds S (opened p) (from_opening p) (opened_holds p) calls in
-    let good = sound_and_decided_in_time S s (good_after S law (opened p) (good_opened S p) calls) a.asked held.made in
-    subst (λ b. let t = (open_if b before p).state in SoundAndDecidedInTime S (after S t calls) (reckoned S t (from_opening p) calls)) (sym ok)
-    (subst (SoundAndDecidedInTime S s) (λ i. record { processors = held.processors i; records = held.records i; asked = a.asked; answered = held.total i }) good)
+    let good = sound_decided_in_time_and_accepted S s (good_after S law (opened p) (good_opened S p ok) calls) a.asked held.made in
+    subst (λ b. let t = (open_if b before p).state in SoundDecidedInTimeAndAccepted S (after S t calls) (reckoned S t (from_opening p) calls)) (sym ok)
+    (subst (SoundDecidedInTimeAndAccepted S s) (λ i. record { processors = held.processors i; records = held.records i; asked = a.asked; answered = held.total i }) good)
+
+pub promise : (S : Setting) → LawfulClock S.earlier → VerdictsAndPapersAreTrue S
+promise S law = record { histories = after_every_history S law; referee = λ record_places line_places run paper. (ruling_sound S record_places line_places run paper).truth }

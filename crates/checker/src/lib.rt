@@ -3,7 +3,7 @@
 
 ghost use Rattle.std.specs.Prelude.{◌≡◌, take, IfOk, slice_get};
 ghost use Rattle.checker.specs.Output.{concluded, verdict_bytes, output, answer_to, OutputClaims};
-ghost use Rattle.checker.specs.Promise.{AfterEveryHistory};
+ghost use Rattle.checker.specs.Promise.{VerdictsAndPapersAreTrue};
 ghost use Rattle.memory.specs.Limits.{input_limit};
 ghost use Rattle.memory.specs.Settings.{setting_of};
 ghost use Rattle.case.specs.Views.{view};
@@ -50,9 +50,9 @@ fn write_refusal<'a>(fault: RunFault, room: &'a mut [u8; OUTPUT_ROOM]) -> &'a [u
     &room[..notice]
 }
 
-// What is written for the bytes of a run, under a model and a clock; what its verdict claims of the records read is true. And after every
-// history of calls on a case under this model and clock, its lines and its verdict are sound, and it is decided once enough steps were
-// asked for.
+// What is written for the bytes of a run, under a model and a clock; what its verdict claims of the records read is true. And the promise under this
+// model and clock: after every history of calls on a case, its lines and its verdict are sound, it is decided once enough steps were asked for, and
+// its papers are accepted by the referee; and what the referee accepts is true.
 pub fn check<M: Model + Drop, C: Clock + Drop>(
     heap: Global,
     setting: Setting<M, C>,
@@ -60,7 +60,7 @@ pub fn check<M: Model + Drop, C: Clock + Drop>(
 ) -> Result<Vec<u8>, AllocError>
     ensures bytes { IfOk result (λ v. v.items ≡ output (setting_of M.Model C.Clock setting) bytes.now) }
     ensures claims { OutputClaims (setting_of M.Model C.Clock setting) bytes.now }
-    ensures histories { AfterEveryHistory (setting_of M.Model C.Clock setting) }
+    ensures promise { VerdictsAndPapersAreTrue (setting_of M.Model C.Clock setting) }
 {
     let mut case = Case::new(heap, setting)?;
     let mut room = [0; OUTPUT_ROOM];
