@@ -1,3 +1,4 @@
+pub mod Admissible
 pub mod Admitted
 pub mod Lawful
 pub mod Least

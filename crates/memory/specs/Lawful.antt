@@ -1,7 +1,10 @@
 -- The rules that the records of a run keep, whatever was admitted and whatever was refused. Assumes nothing.
-use Rattle.std.specs.Prelude.{◌≡◌, ℕ, ◌<◌, ◌≤◌, true, List, length, slice_index_or}
+use Rattle.std.specs.Prelude.{◌≡◌, ℕ, ◌<◌, ◌≤◌, true, List, [], ◌∷◌, ◌++◌, length, Some, slice_index_or}
+use Rattle.memory.specs.declared.kinds.Kind.{Kind}
+use Rattle.memory.specs.declared.records.Entry.{Entry}
 use Rattle.memory.specs.declared.records.Record.{Record}
-use Rattle.memory.specs.Kinds.{is_store, is_fence}
+use Rattle.memory.specs.Admission.{record_of}
+use Rattle.memory.specs.Kinds.{kind_at, is_store, is_fence}
 use Rattle.memory.specs.Limits.{most_records, reading_limit}
 use Rattle.memory.specs.Runs.{blank}
 
@@ -22,3 +25,7 @@ pub record Lawful (p : ℕ) (rs : List Record) : Type 0 where
   pub forward : (i j : ℕ) → i < j → j < length rs → (nth rs i).processor ≡ (nth rs j).processor → (nth rs i).enter ≤ (nth rs j).enter
   -- no two stores write the same value to the same address, so that a load reads at most one
   pub apart : (i j : ℕ) → i < length rs → j < length rs → is_store (nth rs i).kind ≡ true → is_store (nth rs j).kind ≡ true → (nth rs i).address ≡ (nth rs j).address → (nth rs i).value ≡ (nth rs j).value → i ≡ j
+
+-- the entry says no record with which the records would keep the rules: nothing that they allow is refused
+abbrev pub Breaks : ℕ → List Record → Entry → Type 0
+Breaks p rs e = (k : Kind) → kind_at e.kind ≡ Some k → Lawful p (rs ++ record_of k e ∷ []) → ⊥

@@ -1,6 +1,7 @@
 // What is lawful at admission, judged in one place.
-ghost use Rattle.std.specs.Prelude.{◌≡◌, Some};
+ghost use Rattle.std.specs.Prelude.{◌≡◌, Some, OnErr};
 ghost use Rattle.memory.specs.Admission.{opening_judgement, judgement, judge_kind, blank_entry, last_enter, same_store};
+ghost use Rattle.memory.specs.Lawful.{Breaks};
 ghost use Rattle.std.specs.List.{list_any};
 
 use crate::kinds::Kind;
@@ -55,9 +56,11 @@ fn has_twin(records: &[Record], e: Entry) -> bool
     records.iter().any(|r| is_same_store(*r, e))
 }
 
-// The record that an entry becomes in a run of so many processors after these records, or why it is refused.
+// The record that an entry becomes in a run of so many processors after these records, or why it is refused. Nothing is refused that the
+// rules of a run allow.
 pub fn judge(processors: u8, records: &[Record], e: Entry) -> Result<Record, Refusal>
-    ensures { result ≡ judgement processors records.now e }
+    ensures value { result ≡ judgement processors records.now e }
+    ensures breaks { OnErr result (Breaks processors records.now e) }
 {
     if records.len() >= MOST_RECORDS {
         return Err(Refusal::Full);
