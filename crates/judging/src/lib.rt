@@ -6,7 +6,7 @@ ghost use Rattle.memory.specs.Limits.{most_records, most_lines};
 ghost use Rattle.memory.specs.Runs.{setting};
 ghost use Rattle.referee.specs.Ruling.{ruling};
 ghost use Rattle.referee.specs.Truth.{TrueOf};
-ghost use Rattle.judging.specs.Marked.{marked};
+ghost use Rattle.judging.specs.Marked.{marked, answer_of};
 
 use checker::model_mark;
 use memory::clocks::{Clock, GlobalClock, NoClock};
@@ -81,7 +81,7 @@ fn has_no_clock(run: &[u8]) -> bool
 // What the referee answers of the bytes of a run and of a paper, under the model and the clock by the marks of the run's head; an accepted
 // paper is true of the records that were read, with the verdict that is answered. Models and clocks are types, so that it branches on both.
 pub fn judge(run: &[u8], paper: &[u8]) -> Result<Verdict, RefereeFault>
-    ensures answer { result ≡ (ruling (marked run.now) most_records most_lines run.now paper.now).answer }
+    ensures answer { result ≡ answer_of run.now paper.now }
     ensures truth { TrueOf (marked run.now) (ruling (marked run.now) most_records most_lines run.now paper.now).records paper.now result }
 {
     match (is_godson(run), has_no_clock(run)) {

@@ -16,9 +16,10 @@ use Rattle.memory.proofs.Orphans.{orphan_none}
 use Rattle.wire.specs.declared.faults.ByteFault.{ByteFault}
 use Rattle.wire.specs.declared.faults.PaperFault.{PaperFault}
 use Rattle.wire.specs.declared.faults.PaperFault.TheVariants.{Foreign}
+use Rattle.wire.specs.declared.fields.PaperHead.{PaperHead}
 use Rattle.wire.specs.declared.fields.Text.TheVariants.{Paper}
 use Rattle.wire.specs.declared.fields.WrittenLine.{WrittenLine}
-use Rattle.wire.specs.Fields.{Piece, whole, broken, pieces, Sort, head_field, line_field, order_field, orphan_field, end_field, Shown, fault_at, named, next_field, later, sort_of, paper_head_in, written_line_of}
+use Rattle.wire.specs.Fields.{Piece, whole, broken, pieces, Sort, head_field, line_field, order_field, orphan_field, end_field, Shown, fault_at, named, next_field, later, sort_of, paper_head_in, paper_head_content, written_line_of}
 use Rattle.inference.specs.Next as next
 use Rattle.inference.specs.Rules.{listed, follows}
 use Rattle.inference.proofs.Sound.{founded, founded_push, opposed_none}
@@ -27,7 +28,7 @@ use Rattle.search.proofs.LegalOrders.{order_legal}
 use Rattle.referee.specs.declared.papers.Claim.{Claim}
 use Rattle.referee.specs.declared.papers.Claim.TheVariants as claim
 use Rattle.referee.specs.Lines.{founded_by, founded_line, last_opposed}
-use Rattle.referee.specs.Papers.{Judged, concluded, end_sort, end_due, order_sort, order_due, orphan_sort, orphan_due, line_founded, line_placed, line_read, lines_sort, lines_field, lines_due, claim_by, claim_read, claim_sort, first_claim, judge_body, judge_paper}
+use Rattle.referee.specs.Papers.{Judged, concluded, end_sort, end_due, order_sort, order_due, orphan_sort, orphan_due, line_founded, line_placed, line_read, lines_sort, lines_field, lines_due, head_fits, claim_by, claim_read, claim_sort, first_claim, judge_body, judge_paper}
 use Rattle.referee.specs.Truth.{first_content, head_in, body_in, TrueWith, TrueOf}
 use Rattle.referee.proofs.LastLines.{two_opposed}
 
@@ -61,34 +62,59 @@ number claim.Order = 1
 number claim.Opposed = 2
 number claim.Orphan = 3
 
--- a claim is read of its number n
-abbrev Says : ℕ → Result Claim PaperFault → Type 0
-Says n (Ok c) = n ≡ number c
-Says n (Err f) = Unit {0}
+-- the content of a head that claims c, beside so many records
+abbrev claiming : Setting → ℕ → ℕ → List ℕ
+claiming S count n = paper_head_content (record { verdict = n; model = S.model_mark; clock = S.clock_mark; records = count })
 
-head_says : (S : Setting) (count : ℕ) (f : Shown) → Says (get_or f.content 0 0) (first_claim S count (Ok f))
-head_says S count f = by f.sort
-  where
-    n : ℕ
-    n = get_or f.content 0 0
+-- a claim is read of such a content
+abbrev Says : Setting → ℕ → List ℕ → Result Claim PaperFault → Type 0
+Says S count c (Ok k) = c ≡ claiming S count (number k)
+Says S count c (Err f) = Unit {0}
 
-    fit : (c : Claim) → n ≡ number c → (b : Bool) → Says n (cond b (Ok c) (Err Foreign))
-    fit c e true = e
-    fit c e false = tt
+four_numbers : (c : List ℕ) → length c ≡ 4 → c ≡ paper_head_content (paper_head_in c)
+four_numbers [] e = cc
+four_numbers (w ∷ []) e = absurd (omega (arith, e))
+four_numbers (w ∷ (x ∷ [])) e = absurd (omega (arith, e))
+four_numbers (w ∷ (x ∷ (y ∷ []))) e = absurd (omega (arith, e))
+four_numbers (w ∷ (x ∷ (y ∷ (z ∷ c)))) e = ap (λ r. w ∷ x ∷ y ∷ z ∷ r) (nil_from_length c (omega (arith, e)))
 
-    at : (b c d fits : Bool) → eqb n 1 ≡ b → eqb n 2 ≡ c → eqb n 3 ≡ d → Says n (claim_by (cond b (Some claim.Order) (cond c (Some claim.Opposed) (cond d (Some claim.Orphan) None))) fits f.place)
-    at true c d fits x y z = fit claim.Order (eqb-true n 1 x) fits
-    at false true d fits x y z = fit claim.Opposed (eqb-true n 2 y) fits
-    at false false true fits x y z = fit claim.Orphan (eqb-true n 3 z) fits
-    at false false false fits x y z = tt
+module _ (S : Setting) (count : ℕ) (f : Shown) where
+  abbrev c : List ℕ
+  c = f.content
 
-    sized : (b : Bool) → Says n (claim_read S count f.place (cond b (Ok (paper_head_in f.content)) (Err (fault_at f.place))))
-    sized true = at (eqb n 1) (eqb n 2) (eqb n 3) _ refl refl refl
-    sized false = tt
+  abbrev h : PaperHead
+  h = paper_head_in c
 
-    by : (s : Sort) → Says n (claim_sort s S count f)
-    by head_field = sized (eqb (length f.content) 4)
-    by s = tt
+  fitting : length c ≡ 4 → (k : Claim) → h.verdict ≡ number k → head_fits S count h ≡ true → c ≡ claiming S count (number k)
+  fitting four k says fits =
+      let model = and_parts (eqb h.model S.model_mark) (eqb h.clock S.clock_mark && eqb h.records count) fits in
+      let clock = and_parts (eqb h.clock S.clock_mark) (eqb h.records count) model.1 in
+      four_numbers c four
+      ∙ ap (λ n. n ∷ h.model ∷ h.clock ∷ h.records ∷ []) says
+      ∙ ap (λ n. number k ∷ n ∷ h.clock ∷ h.records ∷ []) (eqb-true h.model S.model_mark model.0)
+      ∙ ap (λ n. number k ∷ S.model_mark ∷ n ∷ h.records ∷ []) (eqb-true h.clock S.clock_mark clock.0)
+      ∙ ap (λ n. number k ∷ S.model_mark ∷ S.clock_mark ∷ n ∷ []) (eqb-true h.records count clock.1)
+
+  fit : length c ≡ 4 → (k : Claim) → h.verdict ≡ number k → (b : Bool) → head_fits S count h ≡ b → Says S count c (cond b (Ok k) (Err Foreign))
+  fit four k says true fits = fitting four k says fits
+  fit four k says false fits = tt
+
+  claimed : length c ≡ 4 → (x y z : Bool) → eqb h.verdict 1 ≡ x → eqb h.verdict 2 ≡ y → eqb h.verdict 3 ≡ z → Says S count c (claim_by (cond x (Some claim.Order) (cond y (Some claim.Opposed) (cond z (Some claim.Orphan) None))) (head_fits S count h) f.place)
+  claimed four true y z a b d = fit four claim.Order (eqb-true h.verdict 1 a) _ refl
+  claimed four false true z a b d = fit four claim.Opposed (eqb-true h.verdict 2 b) _ refl
+  claimed four false false true a b d = fit four claim.Orphan (eqb-true h.verdict 3 d) _ refl
+  claimed four false false false a b d = tt
+
+  head_says : Says S count c (first_claim S count (Ok f))
+  head_says = by f.sort
+    where
+      sized : (b : Bool) → eqb (length c) 4 ≡ b → Says S count c (claim_read S count f.place (cond b (Ok h) (Err (fault_at f.place))))
+      sized true e = claimed (eqb-true (length c) 4 e) _ _ _ refl refl refl
+      sized false e = tt
+
+      by : (s : Sort) → Says S count c (claim_sort s S count f)
+      by head_field = sized (eqb (length c) 4) refl
+      by s = tt
 
 -- A paper, beside the lawful records of a run.
 module _ (S : Setting) (p : ℕ) (rs : List Record) (adm : admits p [] rs ≡ true) (paper : List ℕ) where
@@ -99,7 +125,7 @@ module _ (S : Setting) (p : ℕ) (rs : List Record) (adm : admits p [] rs ≡ tr
   IsTrue = TrueOf S rs paper
 
   abbrev HeadSays : ℕ → Type 0
-  HeadSays n = get_or (head_in paper) 0 0 ≡ n
+  HeadSays n = head_in paper ≡ claiming S (length rs) n
 
   -- The conclusion.
   module _ (v : Verdict) (b : Bool) (h : b ≡ true → TrueWith S rs paper v) where
@@ -209,7 +235,7 @@ module _ (S : Setting) (p : ℕ) (rs : List Record) (adm : admits p [] rs ≡ tr
       second : Has (body_in paper) (next_field Paper 7 (later ps))
       second = field_content 7 (later ps)
 
-      by : (c : Result Claim PaperFault) → Says (get_or (head_in paper) 0 0) c → Good (judge_body c S rs places (length paper) (later ps))
+      by : (c : Result Claim PaperFault) → Says S (length rs) (head_in paper) c → Good (judge_body c S rs places (length paper) (later ps))
       by (Err f) said = (refl, tt)
       by (Ok claim.Order) said = (refl, order_true (length paper) (later (later ps)) said (next_field Paper 7 (later ps)) second)
       by (Ok claim.Opposed) said = lines_good said places (length paper) (later ps) [] 7 refl
@@ -217,4 +243,4 @@ module _ (S : Setting) (p : ℕ) (rs : List Record) (adm : admits p [] rs ≡ tr
 
       headed : (f : Result Shown ByteFault) → Has (head_in paper) f → Good (judge_body (first_claim S (length rs) f) S rs places (length paper) (later ps))
       headed (Err e) is = (refl, tt)
-      headed (Ok f) is = by (first_claim S (length rs) (Ok f)) (subst (λ c. Says (get_or c 0 0) (first_claim S (length rs) (Ok f))) is (head_says S (length rs) f))
+      headed (Ok f) is = by (first_claim S (length rs) (Ok f)) (subst (λ c. Says S (length rs) c (first_claim S (length rs) (Ok f))) is (head_says S (length rs) f))

@@ -1,5 +1,5 @@
 -- When a paper is true of a run, and lines are. Assumes nothing.
-use Rattle.std.specs.Prelude.{◌≡◌, ℕ, true, List, [], ◌∷◌, Some, Err, Ok, Result, slice_index}
+use Rattle.std.specs.Prelude.{◌≡◌, ℕ, true, List, [], ◌∷◌, length, Some, Err, Ok, Result}
 use Rattle.memory.specs.declared.records.Record.{Record}
 use Rattle.memory.specs.declared.verdicts.Verdict.{Verdict}
 use Rattle.memory.specs.declared.verdicts.Verdict.TheVariants.{Order, Opposed, Orphan, Exhausted}
@@ -8,7 +8,7 @@ use Rattle.memory.specs.Legal.{Legal, Claims}
 use Rattle.memory.specs.Numbers.{verdict_number}
 use Rattle.memory.specs.Reading.{names_orphan}
 use Rattle.memory.specs.Runs.{Run, Setting, run_of}
-use Rattle.wire.specs.Fields.{Piece, whole, broken, pieces, later}
+use Rattle.wire.specs.Fields.{Piece, whole, broken, pieces, later, paper_head_content}
 use Rattle.inference.specs.Worth.{Holds}
 
 -- the content of the first field, where it is whole
@@ -17,7 +17,7 @@ first_content [] = []
 first_content (broken ∷ ps) = []
 first_content (whole tag c ∷ ps) = c
 
--- the content of a paper's first field, which is its head and begins with the number of its verdict
+-- the content of a paper's first field, which is its head
 abbrev pub head_in : List ℕ → List ℕ
 head_in paper = first_content (pieces paper)
 
@@ -35,8 +35,8 @@ ShowsOrphan rs body Exhausted = ⊥
 
 -- a paper is true of the run of these records, with a verdict
 pub record TrueWith (S : Setting) (rs : List Record) (paper : List ℕ) (v : Verdict) : Type 0 where
-  -- the verdict is the one that the paper's head says
-  pub said : slice_index (head_in paper) 0 ≡ verdict_number (Some v)
+  -- the paper's head says this verdict, the marks of model and clock, and how many records there are
+  pub said : head_in paper ≡ paper_head_content (record { verdict = verdict_number (Some v); model = S.model_mark; clock = S.clock_mark; records = length rs })
   -- what it claims of the run is true: the order in the paper is legal, or the run has no legal order
   pub claim : Claims (run_of S rs) (body_in paper) (Some v)
   -- the orphan is the one that the paper names, and is one
