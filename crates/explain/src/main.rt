@@ -7,7 +7,7 @@ mod steps;
 use crate::reports::{tell, tell_input};
 use anyhow::Context;
 use checker::{counted, model_mark};
-use intake::{Request, asked, ended, read_input};
+use intake::{Request, arguments, ended, read_input};
 use memory::models::{Godson, Model, Sc};
 use std::process::ExitCode;
 
@@ -30,7 +30,7 @@ refused, at any other argument, or where something failed.";
 
 // The two models are two types, so that it branches itself, as `checker::answer` does.
 fn explain(rt: &HostRuntime) -> anyhow::Result<ExitCode> {
-    let input = read_input(rt)?;
+    let input = read_input(rt.alloc(), rt.stdin())?;
     tell_input(rt, &input)?;
     let bytes = counted(&input);
     let answer = if model_mark(bytes) == Some(Godson::MARK) {
@@ -41,10 +41,10 @@ fn explain(rt: &HostRuntime) -> anyhow::Result<ExitCode> {
     Ok(answer.map_or(ExitCode::FAILURE, |_| ExitCode::SUCCESS))
 }
 
-// Each program matches itself; `Request` says why.
 fn run(rt: &HostRuntime) -> anyhow::Result<ExitCode> {
     let unknown = "unknown argument: the only one is --help, which prints the usage";
-    match asked(rt)?.context(unknown)? {
+    let words = arguments(rt)?;
+    match Request::of(&words).context(unknown)? {
         Request::Run => explain(rt),
         Request::Help => {
             rt.println(USAGE)?;

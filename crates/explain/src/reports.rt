@@ -19,7 +19,7 @@ use memory::verdicts::{Verdict, verdict_number};
 use std::io;
 use telling::lines::tell_lines;
 use telling::papers::tell_writing;
-use telling::words::{Claim, ClockName, Logged, ModelName, Records, VerdictName};
+use telling::words::{Claim, ClockName, Logged, ModelName, Records, RefusalName, VerdictName};
 use wire::faults::RunFault;
 
 // The heading, and the bytes that count.
@@ -125,7 +125,11 @@ fn tell_fault(rt: &HostRuntime, fault: Fault) -> io::Result<()> {
     } = fault;
     println!(rt; "")?;
     println!(rt; "The run was refused:")?;
-    println!(rt; "  refusal: {}, {refusal:?}", u8::from(refusal))?;
+    println!(rt;
+        "  refusal: {}, {}",
+        u8::from(refusal),
+        RefusalName(refusal)
+    )?;
     println!(rt; "  layer: {}, {layer}", u8::from(layer))?;
     println!(rt; "  place: byte {place}")?;
     println!(rt; "  {refusal}")

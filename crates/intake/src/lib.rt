@@ -1,12 +1,16 @@
 // What the programs take and how they end: their arguments, the bytes of standard input and of files, and the exit status.
 #![tactic(auto)]
 
-ghost use Rattle.std.specs.Prelude.{◌≡◌, ◌≤◌, IfOk, IfSome, MatchResult, length, take};
+ghost use Rattle.std.specs.Prelude.{◌≡◌, ◌+◌, ◌≤◌, IfOk, IfSome, MatchOption, MatchResult, length, take};
+ghost use Rattle.memory.specs.Limits.{input_limit};
+ghost use Rattle.intake.specs.Limits.{file_limit};
+ghost use Rattle.intake.specs.Arguments.{request_words, errand_words, texts};
 ghost use Rattle.std.specs.Process.{exit_status};
 
 use anyhow::Context;
 use memory::limits::INPUT_LIMIT;
 use std::alloc::Global;
+use std::fs::File;
 use std::io::Read;
 use std::process::ExitCode;
 use std::{env, fs, io};
@@ -17,51 +21,62 @@ const INPUT_ROOM: usize = INPUT_LIMIT + 1;
 // So many bytes of a file are read at most. docs/REFEREE.md says why no further byte changes what the referee answers.
 const FILE_ROOM: usize = 65_536;
 
-// What a program that reads standard input is asked for. Each program does it itself: a function that took the work to be done would
-// have to require that it may be done, and no public function requires anything.
+// The words behind the program's own name.
+pub fn arguments(rt: &HostRuntime) -> anyhow::Result<Vec<String>> {
+    let mut words = env::args(rt).context("cannot read an argument")?;
+    let _ = words.next();
+    let mut behind = Vec::new(rt.alloc());
+    for word in words {
+        behind.push(word)?;
+    }
+    Ok(behind)
+}
+
+// What a program that reads standard input is asked for.
 #[derive(Clone, Copy)]
 pub enum Request {
     Run,
     Help,
 }
 
-// What the arguments after the program's own name ask for: a run where there is none, help where there is --help alone.
-pub fn asked(rt: &HostRuntime) -> anyhow::Result<Option<Request>> {
-    let mut words = env::args(rt).context("cannot read an argument")?;
-    let _ = words.next();
-    let Some(word) = words.next() else {
-        return Ok(Some(Request::Run));
-    };
-    let alone = words.next().is_none();
-    Ok((word.as_str() == "--help" && alone).then_some(Request::Help))
+impl Request {
+    // What these words ask for.
+    pub fn of(words: &[String]) -> Option<Request>
+        ensures { MatchOption result ((x : Request) → request_words x ≡ texts words.now → ⊥) (λ x. request_words x ≡ texts words.now) }
+    {
+        match words {
+            [] => Some(Request::Run),
+            [word] if word.as_str() == "--help" => Some(Request::Help),
+            _ => None,
+        }
+    }
 }
 
 // What a program that reads two files is asked for.
-#[derive(Drop)]
-pub enum Errand {
-    Files { run: String, paper: String },
+#[derive(Clone, Copy)]
+pub enum Errand<'a> {
+    Files { run: &'a str, paper: &'a str },
     Help,
 }
 
-// What the arguments after the program's own name ask for: the names of two files, or help where there is --help alone.
-pub fn sent(rt: &HostRuntime) -> anyhow::Result<Option<Errand>> {
-    let mut words = env::args(rt).context("cannot read an argument")?;
-    let _ = words.next();
-    let Some(word) = words.next() else {
-        return Ok(None);
-    };
-    let second = words.next();
-    if words.next().is_some() {
-        return Ok(None);
+impl<'a> Errand<'a> {
+    // What these words ask for.
+    pub fn of(words: &'a [String]) -> Option<Errand<'a>>
+        ensures { MatchOption result ((x : Errand) → errand_words x ≡ texts words.now → ⊥) (λ x. errand_words x ≡ texts words.now) }
+    {
+        match words {
+            [word] if word.as_str() == "--help" => Some(Errand::Help),
+            [run, paper] => Some(Errand::Files {
+                run: run.as_str(),
+                paper: paper.as_str(),
+            }),
+            _ => None,
+        }
     }
-    Ok(match second {
-        Some(paper) => Some(Errand::Files { run: word, paper }),
-        None => (word.as_str() == "--help").then_some(Errand::Help),
-    })
 }
 
 // The first bytes of a reader, up to the room.
-fn front<R: Read + Drop>(heap: Global, reader: R, room: usize) -> io::Result<Vec<u8>>
+pub fn front<R: Read + Drop>(heap: Global, reader: R, room: usize) -> io::Result<Vec<u8>>
     ensures within { IfOk result (λ v. length v.items ≤ room) }
     ensures bytes { IfOk result (λ v. IfSome (R.remaining reader) (λ xs. v.items ≡ take room xs)) }
 {
@@ -73,18 +88,34 @@ fn front<R: Read + Drop>(heap: Global, reader: R, room: usize) -> io::Result<Vec
 }
 
 // The bytes of standard input, one more at most than count.
-pub fn read_input(rt: &HostRuntime) -> anyhow::Result<Vec<u8>>
-    ensures { IfOk result (λ v. length v.items ≤ 4097) }
+pub fn read_input<R: Read + Drop>(heap: Global, input: R) -> anyhow::Result<Vec<u8>>
+    ensures within { IfOk result (λ v. length v.items ≤ input_limit + 1) }
+    ensures bytes { IfOk result (λ v. IfSome (R.remaining input) (λ xs. v.items ≡ take (input_limit + 1) xs)) }
 {
-    front(rt.alloc(), rt.stdin(), INPUT_ROOM).context("cannot read standard input")
+    front(heap, input, INPUT_ROOM).context("cannot read standard input")
 }
 
-// The first bytes of a file, as many as can matter to the referee. What an error keeps of a long name is its beginning, so the words come first.
-pub fn read_file(rt: &HostRuntime, path: &str) -> anyhow::Result<Vec<u8>>
-    ensures { IfOk result (λ v. length v.items ≤ 65536) }
-{
-    let bytes = fs::open(rt, path).and_then(|file| front(rt.alloc(), file, FILE_ROOM));
-    bytes.context(format_args!("cannot read \"{path}\""))
+// What is read from a place that has a name, which errors tell.
+#[derive(Drop)]
+pub struct Source<'a, R> {
+    pub name: &'a str,
+    pub reader: R,
+}
+
+pub fn open_file<'a>(rt: &HostRuntime, path: &'a str) -> anyhow::Result<Source<'a, File>> {
+    let reader = fs::open(rt, path).context(format_args!("cannot read \"{path}\""))?;
+    Ok(Source { name: path, reader })
+}
+
+impl<R: Read + Drop> Source<'_, R> {
+    // The first bytes, as many as can matter to the referee. What an error keeps of a long name is its beginning, so the words come first.
+    pub fn read(self, heap: Global) -> anyhow::Result<Vec<u8>>
+        ensures within { IfOk result (λ v. length v.items ≤ file_limit) }
+        ensures bytes { IfOk result (λ v. IfSome (R.remaining self.entry.reader) (λ xs. v.items ≡ take file_limit xs)) }
+    {
+        let Source { name, reader } = self;
+        front(heap, reader, FILE_ROOM).context(format_args!("cannot read \"{name}\""))
+    }
 }
 
 // The exit status of a program, which is the other where something went wrong; that is told on standard error.

@@ -1,18 +1,19 @@
 // The referee as a program: a run and a paper in two files, and one line of what the referee says of them.
 #![tactic(auto)]
 
-ghost use Rattle.std.specs.Prelude.{◌≡◌, IfOk, MatchResult};
-ghost use Rattle.std.specs.Process.{exit_status};
+ghost use Rattle.std.specs.Prelude.{IfOk};
+ghost use Rattle.recheck.specs.Told.{Tells, TellsKnown};
 
 use anyhow::Context;
-use intake::{Errand, ended_or, read_file, sent};
+use intake::{Errand, Source, arguments, ended_or, open_file};
 use judging::judge;
-use memory::refusals::Fault;
 use memory::verdicts::{Verdict, verdict_number};
 use referee::faults::RefereeFault;
+use std::alloc::Global;
 use std::io;
+use std::io::{Read, Write};
 use std::process::ExitCode;
-use telling::words::VerdictName;
+use telling::words::{Refused, VerdictName};
 
 const USAGE: &str = "recheck: checks a run's paper, and prints one line
 
@@ -32,46 +33,48 @@ docs/REFEREE.md has the rules, docs/REFUSALS.md the refusals.
 Exit status: 0 where the paper was accepted, and after --help; 1 where it or the
 run was refused; 2 at any other arguments, or where something failed.";
 
-// One line of what the referee answers.
-fn tell(rt: &HostRuntime, answer: Result<Verdict, RefereeFault>) -> io::Result<ExitCode>
-    ensures { IfOk result (λ status. MatchResult answer (λ _. exit_status status ≡ 0) (λ _. exit_status status ≡ 1)) }
+// One line of what the referee answers; of a writer whose bytes are known, behind them.
+fn tell<W: Write>(out: &mut W, answer: Result<Verdict, RefereeFault>) -> io::Result<ExitCode>
+    ensures { IfOk result (Tells answer (W.contents out.old) (W.contents out.new)) }
 {
     match answer {
         Ok(verdict) => {
             let number = verdict_number(Some(verdict));
-            println!(rt; "accepted {number} {}", VerdictName(number))?;
+            writeln!(out, "accepted {number} {}", VerdictName(number))?;
             Ok(ExitCode::SUCCESS)
         }
         Err(fault) => {
-            tell_fault(rt, fault.into())?;
+            writeln!(out, "{}", Refused(fault.into()))?;
             Ok(ExitCode::FAILURE)
         }
     }
 }
 
-fn tell_fault(rt: &HostRuntime, fault: Fault) -> io::Result<()> {
-    let Fault {
-        refusal,
-        layer,
-        place,
-    } = fault;
-    println!(rt;
-        "refused {} {refusal:?} layer {} place {place}",
-        u8::from(refusal),
-        u8::from(layer)
-    )
+// Reads a run and a paper, and tells what the referee answers of them. Of readers whose bytes are known, it is the answer to the first 65,536 of each.
+fn respond<R: Read + Drop, W: Write>(
+    heap: Global,
+    run: Source<'_, R>,
+    paper: Source<'_, R>,
+    out: &mut W,
+) -> anyhow::Result<ExitCode>
+    ensures { IfOk result (TellsKnown (R.remaining run.entry.reader) (R.remaining paper.entry.reader) (W.contents out.old) (W.contents out.new)) }
+{
+    let run = run.read(heap)?;
+    let paper = paper.read(heap)?;
+    Ok(tell(out, judge(&run, &paper))?)
 }
 
 fn recheck(rt: &HostRuntime, run: &str, paper: &str) -> anyhow::Result<ExitCode> {
-    let run = read_file(rt, run)?;
-    let paper = read_file(rt, paper)?;
-    Ok(tell(rt, judge(&run, &paper))?)
+    let run = open_file(rt, run)?;
+    let paper = open_file(rt, paper)?;
+    respond(rt.alloc(), run, paper, &mut rt.stdout())
 }
 
 fn run(rt: &HostRuntime) -> anyhow::Result<ExitCode> {
     let unknown = "takes the names of two files, a run and a paper, or --help alone";
-    match sent(rt)?.context(unknown)? {
-        Errand::Files { run, paper } => recheck(rt, &run, &paper),
+    let words = arguments(rt)?;
+    match Errand::of(&words).context(unknown)? {
+        Errand::Files { run, paper } => recheck(rt, run, paper),
         Errand::Help => {
             rt.println(USAGE)?;
             Ok(ExitCode::SUCCESS)

@@ -1,5 +1,5 @@
 // What a case writes, and its paper read back field by field.
-use crate::words::{ClockName, ModelName, Operation, Records, VerdictName};
+use crate::words::{ClockName, ModelName, Operation, Records, RefusalName, VerdictName};
 use case::cases::Case;
 use memory::clocks::Clock;
 use memory::lines::Line;
@@ -47,8 +47,9 @@ pub fn tell_writing<M: Model, C: Clock>(rt: &HostRuntime, case: &Case<M, C>) -> 
 fn tell_unwritten(rt: &HostRuntime, what: &str, fault: Fault) -> io::Result<()> {
     let refusal = fault.refusal;
     println!(rt;
-        "  {what}: none. Writing it was refused: {}, {refusal:?}. {refusal}",
-        u8::from(refusal)
+        "  {what}: none. Writing it was refused: {}, {}. {refusal}",
+        u8::from(refusal),
+        RefusalName(refusal)
     )
 }
 

@@ -1,8 +1,12 @@
 // Words for records, verdicts, and the numbers and marks that stand in bytes.
+ghost use Rattle.std.specs.Prelude.{Some};
+ghost use Rattle.telling.specs.Words.{operation_words, logged_words, source_words, records_words, model_name, clock_name, verdict_name, refusal_name, refused_words, claim_words};
+
 use memory::clocks::{Clock, GlobalClock, NoClock};
 use memory::kinds::Kind;
 use memory::models::{Godson, Model, Sc};
 use memory::records::Record;
+use memory::refusals::{Fault, Refusal};
 use memory::verdicts::Verdict;
 use std::fmt;
 
@@ -11,12 +15,14 @@ use std::fmt;
 pub struct Operation(pub Record);
 
 impl fmt::Display for Operation {
+    ghost output = { λ o. Some (operation_words o.0) };
+
     fn fmt<W: fmt::Write>(&self, f: &mut fmt::Formatter<W>) -> fmt::Result {
         let address = self.0.address;
         let value = self.0.value;
         match self.0.kind {
-            Kind::Load => write!(f, "load of {value} from {address:#x}"),
-            Kind::Store => write!(f, "store of {value} to {address:#x}"),
+            Kind::Load => write!(f, "load of {value} from 0x{address:x}"),
+            Kind::Store => write!(f, "store of {value} to 0x{address:x}"),
             Kind::Fence => write!(f, "fence"),
         }
     }
@@ -30,6 +36,8 @@ pub struct Logged {
 }
 
 impl fmt::Display for Logged {
+    ghost output = { λ l. Some (logged_words l.number l.record) };
+
     fn fmt<W: fmt::Write>(&self, f: &mut fmt::Formatter<W>) -> fmt::Result {
         let Logged { number, record } = *self;
         let processor = record.processor;
@@ -50,6 +58,8 @@ pub struct Source {
 }
 
 impl fmt::Display for Source {
+    ghost output = { λ s. Some (source_words s.record.kind s.store) };
+
     fn fmt<W: fmt::Write>(&self, f: &mut fmt::Formatter<W>) -> fmt::Result {
         match (self.record.kind, self.store) {
             (Kind::Load, Some(store)) => write!(f, "; reads the store {store}"),
@@ -64,6 +74,8 @@ impl fmt::Display for Source {
 pub struct Records(pub usize);
 
 impl fmt::Display for Records {
+    ghost output = { λ n. Some (records_words n.0) };
+
     fn fmt<W: fmt::Write>(&self, f: &mut fmt::Formatter<W>) -> fmt::Result {
         match self.0 {
             1 => write!(f, "1 record"),
@@ -77,6 +89,8 @@ impl fmt::Display for Records {
 pub struct ModelName(pub u8);
 
 impl fmt::Display for ModelName {
+    ghost output = { λ m. Some (model_name m.0) };
+
     fn fmt<W: fmt::Write>(&self, f: &mut fmt::Formatter<W>) -> fmt::Result {
         f.write_str(match self.0 {
             Sc::MARK => "SC",
@@ -91,6 +105,8 @@ impl fmt::Display for ModelName {
 pub struct ClockName(pub u8);
 
 impl fmt::Display for ClockName {
+    ghost output = { λ c. Some (clock_name c.0) };
+
     fn fmt<W: fmt::Write>(&self, f: &mut fmt::Formatter<W>) -> fmt::Result {
         f.write_str(match self.0 {
             GlobalClock::MARK => "Global",
@@ -105,6 +121,8 @@ impl fmt::Display for ClockName {
 pub struct VerdictName(pub u8);
 
 impl fmt::Display for VerdictName {
+    ghost output = { λ v. Some (verdict_name v.0) };
+
     fn fmt<W: fmt::Write>(&self, f: &mut fmt::Formatter<W>) -> fmt::Result {
         f.write_str(match self.0 {
             0 => "undecided",
@@ -117,11 +135,63 @@ impl fmt::Display for VerdictName {
     }
 }
 
+// A refusal in one word.
+#[derive(Clone, Copy)]
+pub struct RefusalName(pub Refusal);
+
+impl fmt::Display for RefusalName {
+    ghost output = { λ n. Some (refusal_name n.0) };
+
+    fn fmt<W: fmt::Write>(&self, f: &mut fmt::Formatter<W>) -> fmt::Result {
+        f.write_str(match self.0 {
+            Refusal::Malformed => "Malformed",
+            Refusal::Foreign => "Foreign",
+            Refusal::Decided => "Decided",
+            Refusal::Sealed => "Sealed",
+            Refusal::Unsealed => "Unsealed",
+            Refusal::Full => "Full",
+            Refusal::Stranger => "Stranger",
+            Refusal::Kind => "Kind",
+            Refusal::Blank => "Blank",
+            Refusal::Range => "Range",
+            Refusal::Backward => "Backward",
+            Refusal::Twin => "Twin",
+            Refusal::Spent => "Spent",
+            Refusal::Bare => "Bare",
+            Refusal::Short => "Short",
+            Refusal::Unfounded => "Unfounded",
+            Refusal::Hollow => "Hollow",
+        })
+    }
+}
+
+// A fault in one line.
+#[derive(Clone, Copy)]
+pub struct Refused(pub Fault);
+
+impl fmt::Display for Refused {
+    ghost output = { λ r. Some (refused_words r.0) };
+
+    fn fmt<W: fmt::Write>(&self, f: &mut fmt::Formatter<W>) -> fmt::Result {
+        let Fault {
+            refusal,
+            layer,
+            place,
+        } = self.0;
+        let number = u8::from(refusal);
+        let word = RefusalName(refusal);
+        let layer = u8::from(layer);
+        write!(f, "refused {number} {word} layer {layer} place {place}")
+    }
+}
+
 // What a verdict claims, in a sentence.
 #[derive(Clone, Copy)]
 pub struct Claim(pub Option<Verdict>);
 
 impl fmt::Display for Claim {
+    ghost output = { λ c. Some (claim_words c.0) };
+
     fn fmt<W: fmt::Write>(&self, f: &mut fmt::Formatter<W>) -> fmt::Result {
         f.write_str(match self.0 {
             None => "Nothing is claimed: the run may have a legal order or none.",
