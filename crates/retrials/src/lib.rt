@@ -1,6 +1,8 @@
-// Tests of the referee: what it answers, and what its lists hold afterwards.
+// Tests of the referee: what it answers, and what its lists hold afterwards; and a worked example, run.
 #![tactic(auto)]
 
+#[cfg(test)]
+mod examples;
 #[cfg(test)]
 mod judged;
 #[cfg(test)]
