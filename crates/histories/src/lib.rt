@@ -1,0 +1,5 @@
+// Histories of calls on a case, read from bytes, call by call.
+#![tactic(auto)]
+
+pub mod invocations;
+pub mod opcodes;
