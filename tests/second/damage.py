@@ -100,29 +100,33 @@ def records_in(pieces):
     return [at for at, piece in enumerate(pieces) if piece[:3] == b"\x02\0\x1e" and len(piece) == 33]
 
 
-def limit_met(rng, data):
-    """A number of a record as small or as large as it may be, or just beyond."""
+def record_changed(rng, data, change):
+    """One record's field, if there is one, as it is changed."""
     pieces = fields_of(data)
     if not records_in(pieces):
         return data
     at = rng.choice(records_in(pieces))
-    start, end, limits = rng.choice(list(RUN_LIMITS.values()))
-    pieces[at] = pieces[at][:3 + start] + rng.choice(limits).to_bytes(end - start, "big") + pieces[at][3 + end:]
+    pieces[at] = change(pieces[at])
     return b"".join(pieces)
+
+
+def limit_met(rng, data):
+    """A number of a record as small or as large as it may be, or just beyond."""
+    def change(piece):
+        start, end, limits = rng.choice(list(RUN_LIMITS.values()))
+        return piece[:3 + start] + rng.choice(limits).to_bytes(end - start, "big") + piece[3 + end:]
+    return record_changed(rng, data, change)
 
 
 def limits_met(rng, data):
     """The same of each number of a record, more or less, so that more than one refusal fits."""
-    pieces = fields_of(data)
-    if not records_in(pieces):
-        return data
-    at = rng.choice(records_in(pieces))
-    content = pieces[at][3:]
-    for start, end, limits in RUN_LIMITS.values():
-        number = rng.choice(limits).to_bytes(end - start, "big") if rng.random() < 0.5 else content[start:end]
-        content = content[:start] + number + content[end:]
-    pieces[at] = pieces[at][:3] + content
-    return b"".join(pieces)
+    def change(piece):
+        content = piece[3:]
+        for start, end, limits in RUN_LIMITS.values():
+            number = rng.choice(limits).to_bytes(end - start, "big") if rng.random() < 0.5 else content[start:end]
+            content = content[:start] + number + content[end:]
+        return piece[:3] + content
+    return record_changed(rng, data, change)
 
 
 def made_twin(rng, data):
@@ -139,12 +143,9 @@ def made_twin(rng, data):
 
 def made_blank(rng, data):
     """A record is a fence that kept its address and value, or a store of 0."""
-    pieces = fields_of(data)
-    if not records_in(pieces):
-        return data
-    at = rng.choice(records_in(pieces))
-    pieces[at] = pieces[at][:4] + rng.choice((b"\x03" + pieces[at][5:17], b"\x02" + pieces[at][5:9] + bytes(8))) + pieces[at][17:]
-    return b"".join(pieces)
+    def change(piece):
+        return piece[:4] + rng.choice((b"\x03" + piece[5:17], b"\x02" + piece[5:9] + bytes(8))) + piece[17:]
+    return record_changed(rng, data, change)
 
 
 def grown(rng, data):

@@ -37,6 +37,7 @@ pub fn work<M: Model + Drop, C: Clock + Drop>(
 ) -> Result<Case<M, C>, AllocError>
     ensures case { IfOk result (λ c. view c ≡
         worked (setting_of M.Model C.Clock setting) (record { processors = processors; entries = entries.now; inferred = inferred })) }
+    ensures setting { IfOk result (λ c. c.setting ≡ setting) }
     ensures examples { WorkedExamples }
 {
     let mut case = Case::new(heap, setting)?;
