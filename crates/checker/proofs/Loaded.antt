@@ -17,7 +17,7 @@ use Rattle.checker.proofs.Good.{Good, good_opened, good_claims, good_record, goo
 abbrev GoodOpen : Setting → State → Type 0
 GoodOpen S s = Good S s × (s.stage ≡ Open)
 
-good_loading : (S : Setting) (model clock : ℕ) (s : State) → Good S s → (bs : List ℕ) → Good S (loading model clock s bs).state
+pub good_loading : (S : Setting) (model clock : ℕ) (s : State) → Good S s → (bs : List ℕ) → Good S (loading model clock s bs).state
 good_loading S =
     loading_keep (GoodOpen S) (Good S) (λ p ok. (good_opened S p ok, refl)) (λ s e r is h. (good_record S s h.0 h.1 e r is, h.1)) (λ s h. h.0) (λ s h. good_sealed S s h.0 h.1)
 

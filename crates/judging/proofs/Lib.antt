@@ -1,1 +1,1 @@
-pub mod Marks
+pub mod Heads

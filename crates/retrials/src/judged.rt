@@ -3,7 +3,8 @@ use crate::tools::{
     Answer, EMPTY, EMPTY_PAPER, GODSON_PAPER, MESSAGE, MESSAGE_PAPER, ORPHAN, ORPHAN_PAPER, STALE,
     STALE_PAPER, told,
 };
-use judging::{clock_mark, judge};
+use judging::judge;
+use judging::marks::clock_mark;
 use memory::kinds::Kind;
 use memory::lines::{Line, Rule};
 use memory::records::Record;
