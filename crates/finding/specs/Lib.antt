@@ -1,1 +1,3 @@
 pub mod Finding
+pub mod Marks
+pub mod Resting

@@ -1,10 +1,12 @@
-// What lines and orders leave unsaid: the store that a load reads, and the first line that is opposed to a line.
+// What lines and orders leave unsaid: the store that a load reads, the first line that is opposed to a line, and the lines that opposed lines rest on.
 #![tactic(auto)]
 
 ghost use Rattle.std.specs.Prelude.{◌≡◌, length};
 ghost use Rattle.memory.specs.Reading.{Least};
 ghost use Rattle.inference.specs.Rules.{has_pair};
 ghost use Rattle.finding.specs.Finding.{read_by, opposed_to};
+
+pub mod resting;
 
 use memory::lines::Line;
 use memory::reading::reads_from;
@@ -20,10 +22,11 @@ pub fn source_of(load: Record, records: &[Record]) -> Option<usize>
         .map(|index| index + 1)
 }
 
-fn is_opposed(line: Line, other: Line) -> bool
-    ensures { result ≡ has_pair line.second line.first other }
+// The line says that the first comes before the second.
+fn has_pair(line: Line, first: u8, second: u8) -> bool
+    ensures { result ≡ has_pair first second line }
 {
-    other.first == line.second && other.second == line.first
+    line.first == first && line.second == second
 }
 
 // The number of the first line that is opposed to this one, if there is one.
@@ -32,6 +35,6 @@ pub fn opposed_line(line: Line, lines: &[Line]) -> Option<usize>
 {
     lines
         .iter()
-        .position(|other| is_opposed(line, *other))
+        .position(|other| has_pair(*other, line.second, line.first))
         .map(|index| index + 1)
 }

@@ -1,0 +1,4 @@
+pub mod Kept
+pub mod Marks
+pub mod Numbers
+pub mod Premises
