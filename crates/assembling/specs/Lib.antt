@@ -1,0 +1,4 @@
+pub mod Assembly
+pub mod Disassembly
+pub mod RoundTrips
+pub mod Words

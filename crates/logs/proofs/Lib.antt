@@ -1,0 +1,10 @@
+pub mod Back
+pub mod Comments
+pub mod Digits
+pub mod FirstBad
+pub mod Lines
+pub mod Numerals
+pub mod Places
+pub mod Records
+pub mod Whole
+pub mod Words
