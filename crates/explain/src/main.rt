@@ -1,59 +1,83 @@
-// Tells in plain words what the checker does with a run, from the first byte to the paper.
+// Tells in plain words all that comes of a run, from its bytes to the checker's answer.
 #![tactic(auto)]
 
-mod reports;
-mod steps;
+ghost use Rattle.std.specs.Prelude.{IfOk};
+ghost use Rattle.explain.specs.Told.{Tells, TellsKnown};
 
-use crate::reports::{tell, tell_input};
-use anyhow::Context;
-use checker::{counted, model_mark};
-use intake::{Request, arguments, ended, read_input};
-use memory::models::{Godson, Model, Sc};
+use anyhow::{Context, bail};
+use checker::counted;
+use deciding::Report;
+use explaining::accounts::Account;
+use intake::{SearchRequest, arguments, ended, read_input};
+use memory::refusals::Fault;
+use std::alloc::Global;
+use std::io::{Read, Write};
 use std::process::ExitCode;
+use telling::words::Refused;
 
-const USAGE: &str = "explain: tells in plain words what the checker does with a run
+const USAGE: &str = "explain: tells in plain words what comes of a run, and why
 
 usage: explain < RUN
+       explain --steps N < RUN
        explain --help
 
-It reads the bytes of a run from standard input; only the first 4,096 count.
-Byte 4 marks the memory model: 3 is Godson, anything else is read under SC.
-The clock is Global. The search makes 1,000,000 steps at most.
+It reads the bytes of a run from standard input; only the first 4,096 count. The
+run marks its memory model in byte 4 (1 SC, 3 Godson) and its clock in byte 5
+(1 Global, 3 None). All lines are inferred, then at most N steps are searched;
+without N 1,000,000, as the checker zielwart does. N is 0 to 2^62.
 
-It prints the head, each admitted record, each line that inference lists with
-its reason, how many steps the search made and the order that it found, if it
-did, the verdict, and the slip and the paper that the case writes; or the
-refusal, and what stays in the case.
+It prints the verdict in a sentence, the records, why the verdict stands, the
+lines with their reasons, and the checker's answer. Of a refused run it prints
+the records before the fault, and what is wrong where. docs/EXPLAIN.md says how
+to read it.
 
 Exit status: 0 where the run was loaded, and after --help; 1 where the run was
-refused, at any other argument, or where something failed.";
+refused, which standard error says too, at any other argument, or where something
+failed.";
 
-// The two models are two types, so that it branches itself, as `checker::answer` does.
-fn explain(rt: &HostRuntime) -> anyhow::Result<ExitCode> {
-    let input = read_input(rt.alloc(), rt.stdin())?;
-    tell_input(rt, &input)?;
-    let bytes = counted(&input);
-    let answer = if model_mark(bytes) == Some(Godson::MARK) {
-        tell(rt, Godson, bytes)?
-    } else {
-        tell(rt, Sc, bytes)?
-    };
-    Ok(answer.map_or(ExitCode::FAILURE, |_| ExitCode::SUCCESS))
+// Tells the input and the account of what comes of it, and gives why it is refused.
+fn tell<W: Write>(
+    heap: Global,
+    input: &[u8],
+    steps: u64,
+    out: &mut W,
+) -> anyhow::Result<Option<Fault>>
+    ensures { IfOk result (Tells input.now steps (W.contents out.old) (W.contents out.new)) }
+{
+    let report = Report::of(heap, counted(input), steps)?;
+    let account = Account::of(heap, &report, input.len())?;
+    account.tell(out)?;
+    Ok(report.refusal())
+}
+
+// Of a reader and a writer whose bytes are known, it tells all that counts of what the reader has.
+fn respond<R: Read + Drop, W: Write>(
+    heap: Global,
+    input: R,
+    steps: u64,
+    out: &mut W,
+) -> anyhow::Result<Option<Fault>>
+    ensures { IfOk result (TellsKnown (R.remaining input) steps (W.contents out.old) (W.contents out.new)) }
+{
+    let input = read_input(heap, input)?;
+    tell(heap, &input, steps, out)
 }
 
 fn run(rt: &HostRuntime) -> anyhow::Result<ExitCode> {
-    let unknown = "unknown argument: the only one is --help, which prints the usage";
+    let unknown = "takes no argument but --steps N, where N is 0 to 2^62, or --help";
     let words = arguments(rt)?;
-    match Request::of(&words).context(unknown)? {
-        Request::Run => explain(rt),
-        Request::Help => {
-            rt.println(USAGE)?;
-            Ok(ExitCode::SUCCESS)
+    match SearchRequest::of(&words).context(unknown)? {
+        SearchRequest::Run { steps } => {
+            if let Some(fault) = respond(rt.alloc(), rt.stdin(), steps, &mut rt.stdout())? {
+                bail!("the run is {}", Refused(fault));
+            }
         }
+        SearchRequest::Help => rt.println(USAGE)?,
     }
+    Ok(ExitCode::SUCCESS)
 }
 
-// What goes wrong with the program itself is told on standard error; a refused run has been told by then.
+// What goes wrong, and that a run is refused, is told on standard error.
 fn main(rt: HostRuntime) -> ExitCode {
     ended(&rt, "explain", run(&rt))
 }
