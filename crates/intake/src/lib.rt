@@ -1,14 +1,14 @@
 // What the programs take and how they end: their arguments, the bytes of standard input and of files, and the exit status.
 #![tactic(auto)]
 
-ghost use Rattle.std.specs.Prelude.{◌≡◌, ◌+◌, ◌≤◌, IfOk, IfSome, MatchOption, MatchResult, length, take};
+ghost use Rattle.std.specs.Prelude.{◌≡◌, ℕ, ◌+◌, ◌≤◌, IfOk, IfSome, MatchOption, MatchResult, length, take};
 ghost use Rattle.memory.specs.Limits.{input_limit};
 ghost use Rattle.intake.specs.Limits.{file_limit};
-ghost use Rattle.intake.specs.Arguments.{request_words, errand_words, texts};
+ghost use Rattle.intake.specs.Arguments.{request_words, errand_words, texts, NamesSteps, AsksSearch};
 ghost use Rattle.std.specs.Process.{exit_status};
 
 use anyhow::Context;
-use memory::limits::INPUT_LIMIT;
+use memory::limits::{INPUT_LIMIT, MOST_STEPS, PROGRAM_STEPS};
 use std::alloc::Global;
 use std::fs::File;
 use std::io::Read;
@@ -18,7 +18,7 @@ use std::{env, fs, io};
 // One byte more than count, to see whether there are more.
 const INPUT_ROOM: usize = INPUT_LIMIT + 1;
 
-// So many bytes of a file are read at most. docs/REFEREE.md says why no further byte changes what the referee answers.
+// So many bytes of a file are read at most, more than count of a run. docs/REFEREE.md says why no further byte changes what the referee answers.
 const FILE_ROOM: usize = 65_536;
 
 // The words behind the program's own name.
@@ -47,6 +47,43 @@ impl Request {
         match words {
             [] => Some(Request::Run),
             [word] if word.as_str() == "--help" => Some(Request::Help),
+            _ => None,
+        }
+    }
+}
+
+// How many steps a word asks for: decimal digits alone, of a number up to 2^62.
+pub fn steps_in(word: &str) -> Option<u64>
+    ensures { MatchOption result ((n : ℕ) → NamesSteps n word.now → ⊥) (λ n. NamesSteps n word.now) }
+{
+    if word.starts_with('+') {
+        return None;
+    }
+    let steps = word.parse::<u64>().ok()?;
+    (steps <= MOST_STEPS).then_some(steps)
+}
+
+// What a program that reads standard input and searches is asked for.
+#[derive(Clone, Copy)]
+pub enum SearchRequest {
+    Run { steps: u64 },
+    Help,
+}
+
+impl SearchRequest {
+    // What these words ask for: with none, as many steps as the checker searches.
+    pub fn of(words: &[String]) -> Option<SearchRequest>
+        ensures { MatchOption result ((x : SearchRequest) → AsksSearch x (texts words.now) → ⊥) (λ x. AsksSearch x (texts words.now)) }
+    {
+        match words {
+            [] => Some(SearchRequest::Run {
+                steps: PROGRAM_STEPS,
+            }),
+            [word] if word.as_str() == "--help" => Some(SearchRequest::Help),
+            [flag, number] if flag.as_str() == "--steps" => {
+                let steps = steps_in(number.as_str())?;
+                Some(SearchRequest::Run { steps })
+            }
             _ => None,
         }
     }
@@ -108,7 +145,7 @@ pub fn open_file<'a>(rt: &HostRuntime, path: &'a str) -> anyhow::Result<Source<'
 }
 
 impl<R: Read + Drop> Source<'_, R> {
-    // The first bytes, as many as can matter to the referee. What an error keeps of a long name is its beginning, so the words come first.
+    // The first bytes, as many as can matter. What an error keeps of a long name is its beginning, so the words come first.
     pub fn read(self, heap: Global) -> anyhow::Result<Vec<u8>>
         ensures within { IfOk result (λ v. length v.items ≤ file_limit) }
         ensures bytes { IfOk result (λ v. IfSome (R.remaining self.entry.reader) (λ xs. v.items ≡ take file_limit xs)) }

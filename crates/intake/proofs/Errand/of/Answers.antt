@@ -1,7 +1,7 @@
 use Rattle.std.proofs.Common.{sym, ◌∙◌}
 use Rattle.std.proofs.lemmas.Bool.Decides.{Decides-eqb}
 use Rattle.std.proofs.lemmas.Slice.Eq.{slice_eq-Decides}
-use Rattle.intake.proofs.Alone.{alone}
+use Rattle.intake.proofs.Words.{alone}
 use Rattle.intake.proofs.Errand.of.Goals as goal
 
 pub returns-in-len1 : goal.returns-in-len1
