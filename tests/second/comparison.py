@@ -1,12 +1,13 @@
 """The comparison: what the programs say and what the second checker says, input by input."""
 
+import re
 import subprocess
 import tempfile
 from collections import Counter
 from pathlib import Path
 from typing import NamedTuple
 
-from . import generate, histories
+from . import generate, histories, logs
 from .calls import calls
 from .case import UNDECIDED
 from .fields import NOTICE, SLIP
@@ -222,6 +223,50 @@ def first_difference(theirs, ours):
     return differing(f"calls, line {at + 1} of what it prints", theirs[at:at + 1], ours[at:at + 1])
 
 
+def said_words(name, errors):
+    """What a log's program said of a text or a run, without the numbers that differ from one to the other."""
+    return without_place(re.sub(r"line \d+: ", "", errors.decode())) or f"{name}: written"
+
+
+def stranger_words(data, errors):
+    """What a refusal with 7 of a text is for; nothing of anything else."""
+    if b"assemble: line" not in errors or b"refused 7 Stranger" not in errors:
+        return []
+    line = data.split(b"\n")[int(errors.split()[2][:-1]) - 1]
+    if b"processors" in line.lower():
+        return [STRANGERS[0]]
+    return [STRANGERS[1] if b"processors" in data.lower() else STRANGERS[2]]
+
+
+def log_differs(name, data):
+    """What a log's program writes of some bytes and says of them, and where that differs from the second checker's."""
+    out, status, errors = ran(name, given=data)
+    ours, our_errors, our_status = {"assemble": logs.assemble, "disassemble": logs.disassemble}[name](data)
+    return out, errors, differing(name, (out, errors, status), (ours, our_errors, our_status))
+
+
+def comes_back(name, data, out):
+    """Where the bytes of a run, or their log, are not what they were once they have gone through the other program and back."""
+    if name == "assemble":
+        log, _, differences = log_differs("disassemble", out)
+        return differences + comes_back("disassemble", out, log)
+    run, _, differences = log_differs("assemble", out)
+    return differences + differing("assemble of what disassemble prints", run, data)
+
+
+def of_log(seed, index):
+    """assemble on a text, or disassemble on the bytes of a run, and back where either writes something."""
+    name, data = generate.log_input(generate.source(seed, "log", index), index)
+    out, errors, differences = log_differs(name, data)
+    if out:
+        differences += comes_back(name, data, out)
+    return Outcome(Counter([said_words(name, errors)] + stranger_words(data, errors)), differences, (data,))
+
+
+STRANGERS = tuple(f"assemble: refused 7 of {words}" for words in (
+    "a line that counts 0 processors or more than 16", "a processor that the head does not count", "a processor above 15"))
+
+
 def refusals(*pairs):
     return [f"refused {number} {WORDS[number]} layer {layer}" for layer, numbers in pairs for number in numbers]
 
@@ -239,6 +284,15 @@ def expected_calls():
     stands.append("infer ok, lines listed while records are placed")
     plain = [f"{name} ok" for name in ("new", "open", "admit", "write-run", "write-slip", "write-paper")]
     return refused + [f"load {words}" for words in refusals((1, (1,)), (2, (2,)))] + given + plain + stands + ["exit status 0", "exit status 1"]
+
+
+def expected_of_logs():
+    """Each expectation of a line, and each refusal of either program."""
+    expected = [f"assemble: expected {words}" for words in logs.EXPECTATIONS] + [f"assemble: the log has more than {logs.MOST_BYTES} bytes"]
+    refused = refusals((2, (6, 7, 9, 10, 11, 12)))
+    of_bytes = refusals((1, (1,)), (2, (2, 6, 7, 8, 9, 10, 11, 12)))
+    return (expected + [f"assemble: {words}" for words in refused] + [*STRANGERS]
+            + [f"disassemble: {words}" for words in of_bytes] + ["assemble: written", "disassemble: written"])
 
 
 def verdicts(who, numbers):
@@ -267,4 +321,5 @@ PARTS = {
                   + verdicts("second checker, Global, without lines", (1, 3, 4))
                   + verdicts("second checker, None, without lines", (1, 3, 4))),
     "history": Part(of_history, "calls on histories", ("calls",), expected_calls()),
+    "log": Part(of_log, "assemble and disassemble", ("assemble", "disassemble"), expected_of_logs()),
 }

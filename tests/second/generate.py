@@ -2,7 +2,7 @@
 
 from random import Random
 
-from . import papers, runs
+from . import papers, runs, texts
 from .case import FOUND, UNDECIDED, Case
 from .damage import damaged_paper, damaged_run, grown, head_changed, lengthened
 from .faults import Fault
@@ -11,7 +11,7 @@ from .lines import TRANSITIVE
 from .program import ALL_LINES
 from .records import LOAD, MOST_RECORDS, Record
 from .referee import marked
-from .settings import GLOBAL, GODSON, SC
+from .settings import GLOBAL, GODSON, SC, SETTINGS
 from .truth import legal_orders
 
 LIGHT_STEPS = 5_000
@@ -211,3 +211,37 @@ def small_run(rng, index):
     while len(made) < tries and finished(made[-1]).verdict == FOUND:
         made.append(lawful(lambda: family(rng, size, rng.randint(2, 4))))
     return made[-1]
+
+
+def logged_run(rng, index):
+    """A run of any size in any setting, some of whose accesses may have taken place at any time."""
+    run = runs.some_run(rng, some_size(rng, index), 1 + index % 16)
+    return texts.timeless(rng, runs.under(run, *rng.choice(SETTINGS)))
+
+
+def run_to_print(rng, index):
+    """The bytes of a run, as made, damaged or grown."""
+    data, kind = logged_run(rng, index).data(), rng.random()
+    if kind < 0.4:
+        return data
+    if kind < 0.5:
+        return head_changed(rng, data)
+    return damaged_run(rng, data) if kind < 0.93 else grown(rng, data)
+
+
+def fixed_logs():
+    """Texts and runs at limits that are not left to chance, the runs under both clocks."""
+    printed = [data[:5] + clock + data[6:] if len(data) > 5 else data for data in FIXED_INPUTS for clock in (b"\1", b"\3")]
+    return [("assemble", text) for text in texts.FIXED_TEXTS] + [("disassemble", data) for data in printed]
+
+
+FIXED_LOGS = fixed_logs()
+
+
+def log_input(rng, index):
+    """A program and its input: the fixed ones first, then others, one in five of them for disassemble."""
+    if index < len(FIXED_LOGS):
+        return FIXED_LOGS[index]
+    if index % 5 == 4:
+        return "disassemble", run_to_print(rng, index // 5)
+    return "assemble", texts.text_of(rng, runs.under(runs.some_run(rng, some_size(rng, index // 5), 1 + index % 16), *rng.choice(SETTINGS)))

@@ -1,6 +1,7 @@
 """The form of what each program may write and how it may end, by docs/FORMAT.md, docs/REFUSALS.md and docs/CALLS.md."""
 
 import re
+from xml.dom import minidom
 
 from second.faults import WORDS
 
@@ -92,15 +93,63 @@ def notice(sent, out):
     return WORDS[refusal]
 
 
+HEADINGS = {"0": "Undecided: ", "1": "A legal order: ", "2": "No legal order: ", "3": "No legal order: ", "4": "No legal order: "}
+
+
 def explain(sent, status, out, errors):
-    need(status in (0, 1), f"the exit status is {status}")
-    need(errors == b"", "words on standard error")
+    told("explain", status, errors)
     text = out.decode("ascii")
-    need(text.startswith("What the checker does with this run\n\nBytes read: %d\n" % min(len(sent), COUNTED)), "the first lines")
     need(text.endswith("\n") and (re.search(r"^  refusal: ", text, re.M) is not None) == (status == 1), "a refusal and the exit status")
+    need(re.search(r"^  bytes: %d(, which|$)" % min(len(sent), COUNTED), text, re.M), "how many bytes count")
     found = re.findall(r"^Verdict: ([0-4]), (.*)$" if status == 0 else r"^  refusal: (\d+), (\w+)$", text, re.M)
     need(len(found) == 1, "no one verdict or refusal")
-    need(found[0][1] == (VERDICTS[int(found[0][0])] if status == 0 else WORDS.get(int(found[0][0]))), "the word of a number")
+    number, word = found[0]
+    need(word == (VERDICTS[int(number)] if status == 0 else WORDS.get(int(number))), "the word of a number")
+    need(text.startswith("Refused: " if status == 1 else HEADINGS[number]), "the first line")
+    need(status == 0 or errors.startswith(f"explain: the run is refused {number} {word} layer ".encode()), "the line on standard error")
+    return word
+
+
+def refused(name, out, errors):
+    """Nothing is written of what is refused; gives why, by what its line begins with."""
+    need(out == b"", "bytes on standard output")
+    line = errors.decode("ascii").removeprefix(f"{name}: ")
+    found = re.match(r"(?:line \d+: |the run is )?(?:refused (\d+) (\w+) layer [12] place \d+|(expected|the log has more) )", line)
+    need(found, "the line on standard error")
+    need(not found[1] or found[2] == WORDS.get(int(found[1])), "the word of a refusal")
+    return found[2] or found[3]
+
+
+def assemble(sent, status, out, errors):
+    told("assemble", status, errors)
+    if status == 1:
+        return refused("assemble", out, errors)
+    head, *records, end = fields(out)
+    need(head[0] == 1 and len(head[1]) == 3 and 1 <= head[1][0] <= 16, "the head of a run")
+    need(len(records) <= 64 and all(tag == 2 and len(content) == 30 for tag, content in records), "the records of a run")
+    need(end == (3, b""), "the end of a run")
+    return "a run"
+
+
+STAMPED = r"(?:M\[[0-9a-f]+\] (?::=|==) \d+|sync)(?: @ \d+:\d+)?"
+
+
+def disassemble(sent, status, out, errors):
+    told("disassemble", status, errors)
+    if status == 1:
+        return refused("disassemble", out, errors)
+    text = rf"model (?:SC|Godson)\nclock (?:global|none)\nprocessors \d+\n(?:\d+: {STAMPED}\n)*"
+    need(re.fullmatch(text, out.decode("ascii")), "a line of a log")
+    return "a log"
+
+
+def draw(sent, status, out, errors):
+    told("draw", status, errors)
+    if status == 1:
+        return refused("draw", out, errors)
+    need(minidom.parseString(out).documentElement.tagName == "svg", "no picture")
+    found = re.findall(r">Verdict ([0-4]), ([a-z ]+)\.", out.decode("ascii"))
+    need(len(found) == 1 and found[0][1] == VERDICTS[int(found[0][0])], "no one verdict")
     return found[0][1]
 
 
