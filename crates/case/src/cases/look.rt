@@ -1,5 +1,6 @@
 // Looking at a case.
-ghost use Rattle.std.specs.Prelude.{◌≡◌, ◌-◌, ◌*◌, ◌≤◌, true, length};
+ghost use Rattle.std.specs.Prelude.{◌≡◌, ◌-◌, ◌*◌, ◌≤◌, true, [], length};
+ghost use Rattle.memory.specs.Admission.{opens, admits, sized};
 ghost use Rattle.memory.specs.Lawful.{Lawful};
 ghost use Rattle.inference.specs.Paired.{paired};
 ghost use Rattle.search.specs.Placing.{distinct};
@@ -13,16 +14,21 @@ use memory::records::Record;
 use stages::Stage;
 
 impl<M: Model, C: Clock> Case<M, C> {
+    // As many as a run may have, whatever calls came before.
     pub fn processors(&self) -> u8
-        ensures { result ≡ (view self.now).processors }
+        ensures value { result ≡ (view self.now).processors }
+        ensures opened { opens result ≡ true }
     {
         self.held.processors
     }
 
-    // The admitted records; they keep the rules of a run, whatever calls came before.
+    // The admitted records. Whatever calls came before, they keep the rules of a run, a case of as many processors admits them one by one, and their
+    // addresses and values are of the sizes that the promise asks for.
     pub fn records(&self) -> &[Record]
         ensures value { result.now ≡ (view self.now).records }
         ensures lawful { Lawful (view self.now).processors result.now }
+        ensures admitted { admits (view self.now).processors [] result.now ≡ true }
+        ensures sized { sized result.now ≡ true }
     {
         let held = &self.held;
         held.records.as_slice()
