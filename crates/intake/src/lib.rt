@@ -23,7 +23,7 @@ const FILE_ROOM: usize = 65_536;
 
 // The words behind the program's own name.
 pub fn arguments(rt: &HostRuntime) -> anyhow::Result<Vec<String>> {
-    let mut words = env::args(rt).context("cannot read an argument")?;
+    let mut words = env::args(rt).context("an argument cannot be read")?;
     let _ = words.next();
     let mut behind = Vec::new(rt.alloc());
     for word in words {
@@ -129,7 +129,7 @@ pub fn read_input<R: Read + Drop>(heap: Global, input: R) -> anyhow::Result<Vec<
     ensures within { IfOk result (λ v. length v.items ≤ input_limit + 1) }
     ensures bytes { IfOk result (λ v. IfSome (R.remaining input) (λ xs. v.items ≡ take (input_limit + 1) xs)) }
 {
-    front(heap, input, INPUT_ROOM).context("cannot read standard input")
+    front(heap, input, INPUT_ROOM).context("standard input cannot be read")
 }
 
 // What is read from a place that has a name, which errors tell.
